@@ -1,0 +1,4 @@
+pub mod Facts
+pub mod Kept
+pub mod Live
+pub mod Records

@@ -1,0 +1,149 @@
+-- Document 01, "Three lent buffers": the ledger, here the control block c, but for its frame table. Assumes nothing.
+use Prim.Native.Nat.{ℕ, _+_, _-_, _*_}
+use mathlib.Core.Bool.{Bool}
+use mathlib.Core.List.{List, _++_}
+use lib.ListN.{length}
+use lib.Dec.{ltb, leb, eqb}
+use Rattle.words.specs.Words.{wordAt, wordBytes, bytesAt, splice, zeros}
+use Rattle.choice.specs.Choice.{both}
+use Rattle.snapshot.specs.Header.{accounts, snapshotValid}
+use Rattle.snapshot.specs.declared.accounts.Account.{Account}
+use Rattle.control.specs.declared.shadow.Region.{Region}
+use Rattle.control.specs.declared.shadow.Region.the-variants.{Stack, Heap}
+use Rattle.control.specs.declared.shadow.Invocation.{Invocation}
+
+-- ---- layout: each offset, width and limit once
+
+-- "offset of shadow frames (16)"
+abbrev pub shadowAt : ℕ
+shadowAt = 16
+
+-- "17 shadow frames of 264 bytes": the length of one
+abbrev pub shadowSize : ℕ
+shadowSize = 264
+
+-- "offset of the frame table (4,504)": after 17 shadow records
+abbrev pub tableAt : ℕ
+tableAt = 4504
+
+-- "F entries of 8 bytes"
+abbrev pub frameEntrySize : ℕ
+frameEntrySize = 8
+
+-- "frame count F (0..1,024)"
+abbrev pub frameLimit : ℕ
+frameLimit = 1024
+
+-- "live invocations D (1..16)"
+abbrev pub liveLimit : ℕ
+liveLimit = 16
+
+-- "at most 4,096 pages of each region"
+abbrev pub pageLimit : ℕ
+pageLimit = 4096
+
+-- "frames of 4,096 bytes"
+abbrev pub pageSize : ℕ
+pageSize = 4096
+
+-- "32 registers of 8 bytes"
+abbrev pub registersSize : ℕ
+registersSize = 256
+
+-- "Length 4,504+8F."
+abbrev pub controlLength : ℕ → ℕ
+controlLength f = tableAt + frameEntrySize * f
+
+-- "Pool, written: F frames of 4,096 bytes."
+abbrev pub poolLength : ℕ → ℕ
+poolLength f = pageSize * f
+
+-- ---- header
+
+-- "Header of four u32: frame count F"
+abbrev pub frames : List ℕ → ℕ
+frames c = wordAt 4 c 0
+
+-- "live invocations D"
+abbrev pub invocations : List ℕ → ℕ
+invocations c = wordAt 4 c 4
+
+-- "depth is D−1"
+abbrev pub depth : List ℕ → ℕ
+depth c = invocations c - 1
+
+-- the control block with another D
+unfoldable pub setInvocations : List ℕ → ℕ → List ℕ
+setInvocations c d = splice c 4 (wordBytes 4 d)
+
+-- the header's ranges and offsets, and the length
+unfoldable pub controlValid : List ℕ → Bool
+controlValid c =
+    both (leb tableAt (length c))
+    (both (leb (frames c) frameLimit)
+    (both (leb 1 (invocations c))
+    (both (leb (invocations c) liveLimit)
+    (both (eqb (wordAt 4 c 8) shadowAt) (both (eqb (wordAt 4 c 12) tableAt) (eqb (length c) (controlLength (frames c))))))))
+
+-- ---- shadow records, the paper's shadow frames: "u16 program account, u16 stack pages, u16 heap pages, 2 zero bytes, 32
+-- registers of 8 bytes"
+
+-- where record k starts
+abbrev pub recordAt : ℕ → ℕ
+recordAt k = shadowAt + shadowSize * k
+
+-- record k's first three fields
+unfoldable pub invocationOf : List ℕ → ℕ → Invocation
+invocationOf c k =
+    record {
+      program = record { 0 = wordAt 2 c (recordAt k) };
+      stack = wordAt 2 c (recordAt k + 2);
+      heap = wordAt 2 c (recordAt k + 4);
+    }
+
+-- record k's registers
+unfoldable pub registersOf : List ℕ → ℕ → List ℕ
+registersOf c k = bytesAt registersSize c (recordAt k + 8)
+
+-- a record's bytes
+unfoldable pub invocationBytes : Invocation → List ℕ → List ℕ
+invocationBytes i registers =
+    wordBytes 2 (i .program .0) ++ (wordBytes 2 (i .stack) ++ (wordBytes 2 (i .heap) ++ (zeros 2 ++ registers)))
+
+-- the control block with record k anew
+unfoldable pub putInvocation : List ℕ → ℕ → Invocation → List ℕ → List ℕ
+putInvocation c k i registers = splice c (recordAt k) (invocationBytes i registers)
+
+-- the control block with zeros for record k
+unfoldable pub clearInvocation : List ℕ → ℕ → List ℕ
+clearInvocation c k = splice c (recordAt k) (zeros shadowSize)
+
+-- where a region's size stands in a record
+abbrev pub regionAt : Region → ℕ
+regionAt Stack = 2
+regionAt Heap = 4
+
+-- the control block with another size of a region in record k
+unfoldable pub setPages : List ℕ → ℕ → Region → ℕ → List ℕ
+setPages c k r n = splice c (recordAt k + regionAt r) (wordBytes 2 n)
+
+-- the current invocation: that of record D
+abbrev pub current : List ℕ → Invocation
+current c = invocationOf c (invocations c)
+
+-- the size of a region: "n is read from frame D"
+abbrev pub pagesOf : Invocation → Region → ℕ
+pagesOf i Stack = i .stack
+pagesOf i Heap = i .heap
+
+-- ---- validity
+
+-- "Frame D must name a program below A and at most 4,096 pages of each region"
+unfoldable pub currentValid : List ℕ → ℕ → Bool
+currentValid c count =
+    both (ltb (current c .program .0) count) (both (leb (current c .stack) pageLimit) (leb (current c .heap) pageLimit))
+
+-- "1 for headers, buffer lengths and frame D (so reads the first 1 of every order but begin's)"
+unfoldable pub buffersValid : List ℕ → List ℕ → List ℕ → Bool
+buffersValid s c p =
+    both (snapshotValid s) (both (controlValid c) (both (eqb (length p) (poolLength (frames c))) (currentValid c (accounts s))))

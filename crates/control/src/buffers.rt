@@ -1,0 +1,47 @@
+// Whether the three lent buffers are valid together: the first test of every call but begin's.
+use super::header::frame_count;
+use super::header::invocation_count;
+use super::header::valid;
+use super::shadow::invocation_at;
+use snapshot::header::whole_header;
+ghost use mathlib.Core.Path.{_≡_};
+ghost use mathlib.Core.Bool.{true};
+ghost use Rattle.control.specs.Control.{controlValid, currentValid, buffersValid};
+
+// The length of a page and of a frame.
+pub const PAGE: usize = 4096;
+
+// The most pages of a region.
+pub const PAGES: u16 = 4096;
+
+// Whether the current invocation names a program below the account count and has at most the most pages of each region.
+pub fn current_valid(c: &[u8], accounts: usize) -> bool
+    requires { ⌜ controlValid (now c) ≡ true ⌝ }
+    ensures { λ r. ⌜ r ≡ currentValid (now (c .entry)) accounts ⌝ }
+{
+    let i = invocation_at(c, invocation_count(c));
+    if accounts <= i.program.0 as usize {
+        return false;
+    }
+    if PAGES < i.stack {
+        return false;
+    }
+    i.heap <= PAGES
+}
+
+// Whether headers, buffer lengths and the current invocation keep their rules.
+pub fn buffers_valid(s: &[u8], c: &[u8], pool: &[u8]) -> bool
+    ensures { λ r. ⌜ r ≡ buffersValid (now (s .entry)) (now (c .entry)) (now (pool .entry)) ⌝ }
+{
+    if snapshot::header::valid(s) {
+        if valid(c) {
+            if pool.len() != PAGE * frame_count(c) {
+                return false;
+            }
+            let h = whole_header(s);
+            return current_valid(c, h.accounts);
+        }
+        return false;
+    }
+    false
+}

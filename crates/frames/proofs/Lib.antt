@@ -1,0 +1,6 @@
+pub mod Entries
+pub mod Untouched
+pub mod Found
+pub mod Claims
+pub mod Free
+pub mod Loops

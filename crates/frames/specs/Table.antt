@@ -1,0 +1,105 @@
+-- Document 01, "Three lent buffers": the ledger's frame table, and "Copies". Assumes nothing.
+use Prim.Native.Nat.{ℕ, _+_, _*_}
+use mathlib.Core.Bool.{Bool}
+use mathlib.Core.List.{List, _++_}
+use lib.Dec.{ltb, eqb}
+use Rattle.words.specs.Words.{wordAt, wordBytes, splice}
+use Rattle.choice.specs.Choice.{pick, both}
+use Rattle.choice.specs.Search.{lowest, count}
+use Rattle.snapshot.specs.declared.accounts.Account.{Account}
+use Rattle.control.specs.Control.{tableAt, frameEntrySize, frames, pageSize}
+use Rattle.control.specs.declared.shadow.Region.{Region}
+use Rattle.control.specs.declared.shadow.Region.the-variants.{Stack, Heap}
+use Rattle.frames.specs.declared.table.Page.{Page}
+use Rattle.frames.specs.declared.table.Frame.{Frame}
+use Rattle.frames.specs.declared.table.FrameEntry.{FrameEntry}
+use Rattle.frames.specs.declared.finding.Claim.{Claim}
+use Rattle.frames.specs.declared.finding.Claim.the-variants.{Copy, Anonymous}
+use Rattle.frames.specs.declared.finding.Found.{Found}
+use Rattle.frames.specs.declared.finding.Found.the-variants.{At, Nothing}
+
+-- ---- entries: "a use byte .., a tag byte, u16 account, u16 page, u16 zero"
+
+-- where entry i starts
+abbrev pub frameEntryAt : ℕ → ℕ
+frameEntryAt i = tableAt + frameEntrySize * i
+
+-- where entry i ends
+abbrev pub entryEnd : ℕ → ℕ
+entryEnd i = frameEntryAt i + frameEntrySize
+
+-- entry i's field of w bytes at o
+unfoldable pub frameField : ℕ → ℕ → List ℕ → ℕ → ℕ
+frameField w o c i = wordAt w c (frameEntryAt i + o)
+
+-- entry i
+abbrev pub frameEntryOf : List ℕ → ℕ → FrameEntry
+frameEntryOf c i =
+    record {
+      usage = frameField 1 0 c i;
+      tag = frameField 1 1 c i;
+      account = record { 0 = frameField 2 2 c i };
+      page = record { 0 = frameField 2 4 c i };
+      zero = frameField 2 6 c i;
+    }
+
+-- an entry's bytes
+unfoldable pub frameEntryBytes : FrameEntry → List ℕ
+frameEntryBytes e =
+    wordBytes 1 (e .usage) ++ (wordBytes 1 (e .tag) ++ (wordBytes 2 (e .account .0) ++ (wordBytes 2 (e .page .0) ++ wordBytes 2 (e .zero))))
+
+-- the control block with entry i anew
+unfoldable pub putFrameEntry : List ℕ → ℕ → FrameEntry → List ℕ
+putFrameEntry c i e = splice c (frameEntryAt i) (frameEntryBytes e)
+
+-- an entry of zeros
+abbrev pub zeroEntry : FrameEntry
+zeroEntry = record { usage = 0; tag = 0; account = record { 0 = 0 }; page = record { 0 = 0 }; zero = 0 }
+
+-- "Freeing zeroes the entry and leaves the pool bytes."
+abbrev pub freeFrameEntry : List ℕ → ℕ → List ℕ
+freeFrameEntry c i = putFrameEntry c i zeroEntry
+
+-- ---- who claims what
+
+-- "1 account copy"
+abbrev pub usageCopy : ℕ
+usageCopy = 1
+
+-- "2 stack, 3 heap"
+abbrev pub usageOf : Region → ℕ
+usageOf Stack = 2
+usageOf Heap = 3
+
+-- "A copy claims by account and page, a stack or heap frame by page alone."
+abbrev pub holds : Claim → FrameEntry → Bool
+holds (Copy a p) e = both (eqb (e .usage) usageCopy) (both (eqb (e .account .0) (a .0)) (eqb (e .page .0) (p .0)))
+holds (Anonymous r p) e = both (eqb (e .usage) (usageOf r)) (eqb (e .page .0) (p .0))
+
+-- entry i claims the page
+unfoldable pub claims : List ℕ → Claim → ℕ → Bool
+claims c q i = holds q (frameEntryOf c i)
+
+-- "0 free"
+unfoldable pub isFree : List ℕ → ℕ → Bool
+isFree c i = eqb (frameEntryOf c i .usage) 0
+
+-- an index below n as the frame that was found, n as none
+unfoldable pub foundIn : ℕ → ℕ → Found
+foundIn n i = pick (ltb i n) (At (record { 0 = i })) Nothing
+
+-- "The frame of a page is the lowest-numbered entry that claims it."
+unfoldable pub frameOf : List ℕ → Claim → Found
+frameOf c q = foundIn (frames c) (lowest (claims c q) (frames c))
+
+-- "takes the lowest free frame": the one choice of a free frame
+unfoldable pub freeFrame : List ℕ → Found
+freeFrame c = foundIn (frames c) (lowest (isFree c) (frames c))
+
+-- how many frames are free
+unfoldable pub freeCount : List ℕ → ℕ
+freeCount c = count (isFree c) (frames c)
+
+-- where a frame starts in the pool
+abbrev pub frameStart : Frame → ℕ
+frameStart f = pageSize * f .0

@@ -1,0 +1,51 @@
+-- `inspect::snapshot_file::show_accounts` meets its contract: the loop counts to 64. Assumes nothing.
+use Prim.Native.Nat.{ℕ, _≤_, _-_}
+use native.Mathlib.Omega.{arith}
+use mathlib.Core.Logic.{⊎-elim}
+use Rattle.inspect.proofs.snapshot_file.show_accounts.Statement.{statement}
+use Rattle.inspect.proofs.snapshot_file.show_accounts.Tie as tie
+
+abbrev Inv-loop : tie.InvT-loop
+Inv-loop s count a₀ a = a ≤ 64
+
+abbrev μ-loop : tie.MeasureT-loop
+μ-loop s count a₀ a = 64 - a
+
+read-header-requires : tie.Need-read-header-requires Inv-loop μ-loop
+read-header-requires c κs = tt
+
+loop-holds : tie.Need-loop-holds Inv-loop μ-loop
+loop-holds c = omega arith
+
+cast-if1 : tie.Need-cast-if1 Inv-loop μ-loop
+cast-if1 c = omega arith
+
+show-account-requires : tie.Need-show-account-requires Inv-loop μ-loop
+show-account-requires c κs = tt
+
+add-a : tie.Need-add-a Inv-loop μ-loop
+add-a c = omega arith
+
+loop-less : tie.Need-loop-less Inv-loop μ-loop
+loop-less c = omega arith
+
+loop-again : tie.Need-loop-again Inv-loop μ-loop
+loop-again c = omega arith
+
+returns : tie.Need-returns Inv-loop μ-loop
+returns c = tt
+
+pub show-accounts-spec : {M : Type 1} → statement M
+show-accounts-spec =
+    tie.close
+    (tie.spec
+    Inv-loop
+    μ-loop
+    read-header-requires
+    loop-holds
+    cast-if1
+    show-account-requires
+    add-a
+    loop-less
+    loop-again
+    returns)

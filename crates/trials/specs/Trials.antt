@@ -1,0 +1,38 @@
+-- Document 01, "Trials at the edges": "Marked P: proved, together as a single table." Assumes nothing.
+use Prim.Native.Nat.{ℕ}
+use mathlib.Core.Bool.{Bool, true}
+use mathlib.Core.List.{List, [], _∷_}
+use lib.Dec.{eqb}
+use Rattle.choice.specs.Choice.{both}
+use Rattle.refusal.specs.Numbers.{done}
+use Rattle.address.specs.Address.{splitOf}
+
+-- a trial: an address with its fields, or one that is refused with its number
+pub data Trial : Type 0 where
+  splits : (address type index offset : ℕ) → Trial
+  refuses : (address number : ℕ) → Trial
+
+-- the trials marked P
+unfoldable pub trials : List Trial
+trials =
+    splits 0x030005000800 3 5 0x800
+    ∷ splits 0x000001000040 0 1 0x40
+    ∷ splits 0x050000001000 5 0 0x1000
+    ∷ refuses 0x0001000000000000 3
+    ∷ []
+
+-- splitting the address gives these fields and this number
+unfoldable pub splitGives : ℕ → ℕ → ℕ → ℕ → ℕ → Bool
+splitGives a type index offset number =
+    both (eqb (splitOf a .«segment_type») type)
+    (both (eqb (splitOf a .index) index) (both (eqb (splitOf a .offset) offset) (eqb (splitOf a .number) number)))
+
+-- a trial comes out as its row says
+unfoldable pub passes : Trial → Bool
+passes (splits a type index offset) = splitGives a type index offset done
+passes (refuses a number) = splitGives a 0 0 0 number
+
+-- every trial of a table does
+unfoldable pub allPass : List Trial → Bool
+allPass [] = true
+allPass (t ∷ ts) = both (passes t) (allPass ts)
