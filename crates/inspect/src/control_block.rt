@@ -1,8 +1,8 @@
 // The fields of a control block.
-use super::text::field;
-use super::text::flag;
-use super::text::number;
-use super::text::say;
+use console::field;
+use console::flag;
+use console::number;
+use console::say;
 use control::header::frame_count;
 use control::header::invocation_count;
 use control::header::valid;
@@ -30,7 +30,7 @@ fn show_invocation(c: &[u8], k: usize)
 {
     let i = invocation_at(c, k);
     say(b"  invocation ");
-    number(k);
+    number(k as u64);
     let program = i.program;
     field(b": program", program.0 as usize);
     field(b"    stack pages", i.stack as usize);
@@ -43,7 +43,7 @@ fn show_frame(c: &[u8], f: Frame)
 {
     let e = frame_entry(c, f);
     say(b"  frame ");
-    number(f.0 as usize);
+    number(f.0 as u64);
     field(b": use", e.usage as usize);
     field(b"    tag", e.tag as usize);
     let account = e.account;

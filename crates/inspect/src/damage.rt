@@ -1,6 +1,6 @@
 // What is said of buffers that are damaged, one field at a time. Each damage is undone before the next.
-use super::text::flag;
-use super::text::say;
+use console::flag;
+use console::say;
 use control::buffers::buffers_valid;
 
 // Turns every bit of a byte, or does nothing past the end. Done twice, it leaves the bytes as they were.

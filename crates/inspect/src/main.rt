@@ -2,24 +2,9 @@
 mod control_block;
 mod damage;
 mod snapshot_file;
-mod text;
 
-use text::say;
-ghost use Rattle.io.specs.Counts.{Counts};
-
-// Reads a file whole, as far as there is room, and gives how many bytes it has.
-fn load(path: &[u8], buffer: &mut [u8]) -> usize
-    ensures { λ r. ⌜ Counts r (now (buffer .exit)) ⌝ }
-{
-    let file = os::open_read(path);
-    if file < 0 {
-        os::fail(path);
-        return 0;
-    }
-    let n = io::read_full(file, buffer);
-    libc::close(file);
-    n
-}
+use console::load;
+use console::say;
 
 // Prints the verdict on the buffers with each of them one byte short, in turn.
 fn cut(s: &[u8], c: &[u8], pool: &[u8]) {

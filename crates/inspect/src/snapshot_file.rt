@@ -1,8 +1,8 @@
 // The fields of a snapshot.
-use super::text::field;
-use super::text::flag;
-use super::text::number;
-use super::text::say;
+use console::field;
+use console::flag;
+use console::number;
+use console::say;
 use snapshot::accounts::Account;
 use snapshot::accounts::account_entry;
 use snapshot::accounts::entry_valid;
@@ -14,7 +14,7 @@ use snapshot::header::valid;
 fn show_account(s: &[u8], a: Account) {
     let e = account_entry(s, a);
     say(b"  account ");
-    number(a.0 as usize);
+    number(a.0 as u64);
     flag(b" valid", entry_valid(s, a));
     flag(b"    exists", e.exists());
     flag(b"    writable", e.writable());

@@ -29,6 +29,12 @@ pub enum Refusal {
     BadList,
 }
 
+// What a test finds: go on, or refuse.
+pub enum Check {
+    Pass,
+    Stop(Refusal),
+}
+
 // The number given back where nothing is refused.
 pub const DONE: u8 = 0;
 

@@ -1,0 +1,95 @@
+-- The facts by name behind a begin, a call and a return that are accepted: each test of the chain passed. Assumes nothing.
+use Prim.Native.Nat.{ℕ, _≤_, _<_}
+use mathlib.Core.Path.{_≡_}
+use mathlib.Core.Bool.{true}
+use mathlib.Core.List.{List}
+use borrow.Author.Tests.{leb-true, eqb-true, ltb-true}
+use Rattle.choice.proofs.Tests.{both-true}
+use Rattle.refusal.specs.declared.Check.the-variants.{Pass}
+use Rattle.refusal.proofs.Checks.{need-then, need-pass}
+use Rattle.snapshot.specs.Header.{snapshotValid}
+use Rattle.snapshot.specs.declared.accounts.Account.{Account}
+use Rattle.control.specs.Control.{tableAt, frameLimit, liveLimit, registersSize, controlLength, poolLength, invocations}
+use Rattle.control.proofs.Facts.{ControlFacts, BuffersFacts, control-facts, buffers-facts}
+use Rattle.invoke.specs.Invoke.{programCheck, framesIn, roomValid, beginCheck, callCheck, returnCheck}
+
+-- ---- begin
+
+-- what the lengths of control block and pool keep
+pub record RoomFacts (control pool : ℕ) : Type 0 where
+  pub header : tableAt ≤ control
+  pub few-frames : framesIn control ≤ frameLimit
+  pub control-size : control ≡ controlLength (framesIn control)
+  pub pool-size : pool ≡ poolLength (framesIn control)
+
+pub room-facts : (control pool : ℕ) → roomValid control pool ≡ true → RoomFacts control pool
+unfolding roomValid
+room-facts control pool e =
+    let t₁ = both-true _ _ e in
+    let t₂ = both-true _ _ (t₁ .1) in
+    let t₃ = both-true _ _ (t₂ .1) in
+    record {
+      header = leb-true _ _ (t₁ .0);
+      few-frames = leb-true _ _ (t₂ .0);
+      control-size = eqb-true _ _ (t₃ .0);
+      pool-size = eqb-true _ _ (t₃ .1);
+    }
+
+-- what an accepted begin has shown
+pub record BeginFacts (s : List ℕ) (control pool : ℕ) (a : Account) : Type 0 where
+  pub snapshot : snapshotValid s ≡ true
+  pub room : roomValid control pool ≡ true
+  pub program : programCheck s a ≡ Pass
+
+pub begin-facts : (s : List ℕ) (control pool : ℕ) (a : Account) → beginCheck s control pool a ≡ Pass → BeginFacts s control pool a
+unfolding beginCheck
+begin-facts s control pool a e =
+    let t = need-then _ _ _ e in
+    let b = both-true _ _ (t .0) in
+    record { snapshot = b .0; room = b .1; program = t .1 }
+
+-- ---- call and return
+
+module _ (s c p : List ℕ) where
+  -- what an accepted call has shown
+  pub record CallFacts (a : Account) (size : ℕ) : Type 0 where
+    pub buffers : BuffersFacts s c p
+    pub control : ControlFacts c
+    pub registers : size ≡ registersSize
+    pub below : invocations c < liveLimit
+    pub program : programCheck s a ≡ Pass
+
+  pub call-facts : (a : Account) (size : ℕ) → callCheck s c p a size ≡ Pass → CallFacts a size
+  unfolding callCheck
+  call-facts a size e =
+      let t₁ = need-then _ _ _ e in
+      let t₂ = need-then _ _ _ (t₁ .1) in
+      let t₃ = need-then _ _ _ (t₂ .1) in
+      let b = buffers-facts s c p (t₁ .0) in
+      record {
+        buffers = b;
+        control = control-facts c (b .control);
+        registers = eqb-true _ _ (t₂ .0);
+        below = ltb-true _ _ (t₃ .0);
+        program = t₃ .1;
+      }
+
+  -- what an accepted return has shown
+  pub record ReturnFacts (size : ℕ) : Type 0 where
+    pub buffers : BuffersFacts s c p
+    pub control : ControlFacts c
+    pub registers : size ≡ registersSize
+    pub above : 1 < invocations c
+
+  pub return-facts : (size : ℕ) → returnCheck s c p size ≡ Pass → ReturnFacts size
+  unfolding returnCheck
+  return-facts size e =
+      let t₁ = need-then _ _ _ e in
+      let t₂ = need-then _ _ _ (t₁ .1) in
+      let b = buffers-facts s c p (t₁ .0) in
+      record {
+        buffers = b;
+        control = control-facts c (b .control);
+        registers = eqb-true _ _ (t₂ .0);
+        above = ltb-true _ _ (need-pass _ _ (t₂ .1));
+      }

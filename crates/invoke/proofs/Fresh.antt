@@ -1,0 +1,158 @@
+-- What a fresh control block reads: the header with one invocation, its record with the program and no pages, and zeros elsewhere.
+-- Assumes nothing.
+use Prim.Native.Nat.{ℕ, _+_, _≤_, _<_, _^_}
+use mathlib.Core.Path.{_≡_, refl, sym, _∙_}
+use mathlib.Core.Bool.{true, false}
+use mathlib.Core.Logic.{inl, inr}
+use mathlib.Core.List.{List}
+use native.Mathlib.Nat.{zero-add}
+use native.Mathlib.Omega.{arith}
+use lib.ListN.{length}
+use Rattle.words.specs.Words.{wordAt, wordBytes, splice, zeros}
+use Rattle.words.proofs.Splice.{length-splice}
+use Rattle.words.proofs.Word.{word-in, word-behind, word-zeros, word-same, length-wordBytes}
+use Rattle.words.proofs.Run.{length-zeros}
+use Rattle.snapshot.specs.declared.accounts.Account.{Account}
+use Rattle.control.specs.Control.{shadowAt, tableAt, frames, invocations, invocationOf, current, controlValid, currentValid}
+use Rattle.control.specs.declared.shadow.Invocation.{Invocation}
+use Rattle.control.proofs.Facts.{control-valid, current-valid}
+use Rattle.control.proofs.Kept.{Only, Apart, only-splice, word-kept}
+use Rattle.control.proofs.Records.{invocation-is}
+use Rattle.frames.specs.Table.{frameEntryAt, frameField, frameEntryOf, zeroEntry, claims, isFree}
+use Rattle.frames.specs.declared.finding.Claim.{Claim}
+use Rattle.frames.proofs.Claims.{free-claims}
+use Rattle.invoke.specs.Invoke.{framesIn, roomValid, headerBytes, fresh}
+use Rattle.invoke.proofs.Accepted.{RoomFacts, room-facts}
+
+-- ---- the header's bytes
+
+-- they are sixteen
+length-headerBytes : (f d : ℕ) → length (headerBytes f d) ≡ 16
+unfolding headerBytes wordBytes
+length-headerBytes f d = refl
+
+-- they spell the four words
+header-read : (f d : ℕ) → f < 2 ^ 32 → d < 2 ^ 32
+    → (wordAt 4 (headerBytes f d) 0 ≡ f) × (wordAt 4 (headerBytes f d) 4 ≡ d)
+    × (wordAt 4 (headerBytes f d) 8 ≡ shadowAt) × (wordAt 4 (headerBytes f d) 12 ≡ tableAt)
+unfolding headerBytes wordBytes wordAt
+header-read f d hf hd = (omega arith, omega arith, refl, refl)
+
+-- ---- a fresh control block
+
+-- the header over zeros
+abbrev base : ℕ → List ℕ
+base size = splice (zeros size) 0 (headerBytes (framesIn size) 1)
+
+-- what a program that begins has
+abbrev pub starts : Account → Invocation
+starts a = record { program = a; stack = 0; heap = 0 }
+
+module _ (size pool : ℕ) (a : Account) (valid : roomValid size pool ≡ true) (fits : a .0 < 65536) where
+  -- the lengths, by name
+  room : RoomFacts size pool
+  room = room-facts size pool valid
+
+  -- the header does not change the length
+  length-base : length (base size) ≡ size
+  length-base = length-splice (zeros size) 0 (headerBytes (framesIn size) 1) ∙ length-zeros size
+
+  -- the program is put into it
+  program-only : Only 280 282 (base size) (fresh size a)
+  unfolding fresh
+  program-only = only-splice 280 282 (base size) 280 (wordBytes 2 (a .0)) (omega arith) (omega (arith, length-wordBytes 2 (a .0)))
+
+  -- a word of the header
+  header-word : (o : ℕ) → o + 4 ≤ 16 → wordAt 4 (fresh size a) o ≡ wordAt 4 (headerBytes (framesIn size) 1) o
+  header-word o h =
+      let l : length (headerBytes (framesIn size) 1) ≡ 16 = length-headerBytes (framesIn size) 1 in
+      word-kept program-only 4 o (inl (omega arith))
+      ∙ rw zero-add at (word-in 4 (zeros size) 0 (headerBytes (framesIn size) 1) o (omega arith) (omega (arith, length-zeros size, room .header)))
+
+  -- the four words
+  words : (frames (fresh size a) ≡ framesIn size) × (invocations (fresh size a) ≡ 1)
+      × (wordAt 4 (fresh size a) 8 ≡ shadowAt) × (wordAt 4 (fresh size a) 12 ≡ tableAt)
+  words =
+      let h = header-read (framesIn size) 1 (omega (arith, room .few-frames)) (omega arith) in
+      (header-word 0 (omega arith) ∙ h .0, header-word 4 (omega arith) ∙ h .1, header-word 8 (omega arith) ∙ h .2, header-word 12 (omega arith) ∙ h .3)
+
+  -- every word behind the header but the program's is 0
+  pub fresh-zero : (w j : ℕ) → shadowAt ≤ j → Apart 280 282 w j → wordAt w (fresh size a) j ≡ 0
+  fresh-zero w j h apart =
+      word-kept program-only w j apart
+      ∙ word-behind w (zeros size) 0 (headerBytes (framesIn size) 1) j (omega (arith, length-headerBytes (framesIn size) 1))
+      ∙ word-zeros w size j
+
+  -- ---- length, header, current invocation
+
+  -- it is as long as asked
+  pub length-fresh : length (fresh size a) ≡ size
+  length-fresh = program-only .size ∙ length-base
+
+  -- it has as many frames as there is room for
+  pub fresh-frames : frames (fresh size a) ≡ framesIn size
+  fresh-frames = words .0
+
+  -- one invocation is live
+  pub fresh-invocations : invocations (fresh size a) ≡ 1
+  fresh-invocations = words .1
+
+  -- it is valid
+  pub fresh-valid : controlValid (fresh size a) ≡ true
+  fresh-valid =
+      let l : length (fresh size a) ≡ size = length-fresh in
+      let w = words in
+      let r : RoomFacts size pool = room in
+      control-valid (fresh size a)
+      (record {
+        header = omega arith;
+        few-frames = omega arith;
+        some-live = omega arith;
+        few-live = omega arith;
+        shadow-at = w .2;
+        table-at = w .3;
+        size = omega arith;
+      })
+
+  -- the program's word
+  program-word : wordAt 2 (fresh size a) 280 ≡ a .0
+  unfolding fresh
+  program-word = word-same 2 (base size) 280 (a .0) fits (omega (arith, length-base, room .header))
+
+  -- its record has the program and no pages
+  pub fresh-invocation : invocationOf (fresh size a) 1 ≡ starts a
+  fresh-invocation =
+      sym
+      (invocation-is (fresh size a) 1 280 (a .0) 0 0 refl (sym program-word) (sym (fresh-zero 2 282 (omega arith) (inr (omega arith))))
+      (sym (fresh-zero 2 284 (omega arith) (inr (omega arith)))))
+
+  -- that is the current invocation
+  pub fresh-current : current (fresh size a) ≡ starts a
+  fresh-current = rw fresh-invocations fresh-invocation
+
+  -- which is valid where the program is below the account count
+  pub fresh-current-valid : (n : ℕ) → a .0 < n → currentValid (fresh size a) n ≡ true
+  fresh-current-valid n l =
+      current-valid (fresh size a) n
+      (record { program-known = rw fresh-current l; few-stack = rw fresh-current (omega arith); few-heap = rw fresh-current (omega arith) })
+
+  -- ---- the frame table
+
+  module _ (i : ℕ) where
+    -- every field is 0
+    field-zero : (w o : ℕ) → frameField w o (fresh size a) i ≡ 0
+    unfolding frameField
+    field-zero w o = fresh-zero w (frameEntryAt i + o) (omega arith) (inr (omega arith))
+
+    -- every entry is zeros
+    pub fresh-entry : frameEntryOf (fresh size a) i ≡ zeroEntry
+    fresh-entry = rw (field-zero 1 0, field-zero 1 1, field-zero 2 2, field-zero 2 4, field-zero 2 6)
+
+    -- it is free
+    pub fresh-free : isFree (fresh size a) i ≡ true
+    unfolding isFree
+    fresh-free = rw (field-zero 1 0)
+
+    -- it claims nothing
+    pub fresh-claims : (q : Claim) → claims (fresh size a) q i ≡ false
+    fresh-claims q = free-claims (fresh size a) i fresh-free q

@@ -1,0 +1,4 @@
+pub mod Accepted
+pub mod Fresh
+pub mod Freed
+pub mod Depth

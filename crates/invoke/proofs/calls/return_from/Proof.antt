@@ -1,0 +1,126 @@
+-- `invoke::calls::return_from` meets its contract: a check that stops is the answer and leaves both buffers; behind one that passes, the
+-- registers are read from the block as it came, and the three writes are `returned`. Assumes nothing.
+use Prim.Native.Nat.{ℕ, _-_}
+use mathlib.Core.Path.{_≡_, refl, sym, _∙_}
+use mathlib.Core.List.{List}
+use native.Mathlib.Omega.{arith}
+use lib.ListN.{length}
+use borrow.Author.Needs.{needs}
+use Rattle.refusal.specs.Numbers.{done, numberOf}
+use Rattle.refusal.specs.declared.Check.{Check}
+use Rattle.refusal.specs.declared.Check.the-variants.{Pass, Stop}
+use Rattle.refusal.specs.declared.Refusal.{Refusal}
+use Rattle.control.specs.Control.{frames, invocations, setInvocations, clearInvocation, registersOf}
+use Rattle.invoke.specs.Invoke.{returnCheck, freedBelow, returned, returnNumber, returnControl, returnOut}
+use Rattle.invoke.proofs.Accepted.{ReturnFacts, return-facts}
+use Rattle.invoke.proofs.calls.return_from.Statement.{statement}
+use Rattle.invoke.proofs.calls.return_from.Tie as tie
+
+module _ (s c p out : List ℕ) {k : Check} (e : k ≡ returnCheck s c p (length out)) where
+  -- a refusal's number, and both buffers as they were
+  refused : {r : Refusal} {n : ℕ} → k ≡ Stop r → n ≡ numberOf r
+      → (n ≡ returnNumber s c p out) × ((c ≡ returnControl s c p out) × (out ≡ returnOut s c p out))
+  unfolding returnNumber returnControl returnOut
+  refused f h = rw (← e, f) (h, (refl, refl))
+
+  -- 0, the block after the three writes, and the registers
+  goes-on : {d : ℕ} {c₁ c₂ c₃ r : List ℕ} → k ≡ Pass → d ≡ invocations c → r ≡ registersOf c d → c₁ ≡ freedBelow (d - 1) c (frames c)
+      → c₂ ≡ clearInvocation c₁ d → c₃ ≡ setInvocations c₂ (d - 1)
+      → (done ≡ returnNumber s c p out) × ((c₃ ≡ returnControl s c p out) × (r ≡ returnOut s c p out))
+  unfolding returnNumber returnControl returnOut returned
+  goes-on f e₁ e₂ e₃ e₄ e₅ = rw (← e, f) (refl, (e₅ ∙ rw (e₄, e₃, e₁), e₂ ∙ rw e₁))
+
+-- what a check that passes has shown
+shown : (s c p : List ℕ) (size : ℕ) {k : Check} → k ≡ returnCheck s c p size → k ≡ Pass → ReturnFacts s c p size
+shown s c p size e f = return-facts s c p size (sym e ∙ f)
+
+return-check-requires : tie.Need-return-check-requires
+return-check-requires c κs = search needs
+
+enum-known-check : tie.Need-enum-known-check
+enum-known-check c = search needs
+
+number-requires : tie.Need-number-requires
+number-requires c κs = search needs
+
+same-length : tie.Need-same-length
+same-length c = search needs
+
+returns : tie.Need-returns
+returns c = refused _ _ _ _ (c .before .before .before .before .return-check .ensures) (c .before .before .check .given .1) (c .number .ensures)
+
+enum-told : tie.Need-enum-told
+enum-told c = search needs
+
+invocation-count-requires : tie.Need-invocation-count-requires
+invocation-count-requires c κs = shown _ _ _ _ (c .before .before .before .return-check .ensures) (c .before .enum-told .given .1) .control .header
+
+read-registers-requires : tie.Need-read-registers-requires
+read-registers-requires c κs =
+    let d = c .before .before .before .before in
+    let f = shown _ _ _ _ (d .before .before .return-check .ensures) (d .enum-told .given .1) in
+    omega arith
+
+sub-free-leaving : tie.Need-sub-free-leaving
+sub-free-leaving c =
+    let d = c .before .before .before .before .before .before .before .before in
+    let f = shown _ _ _ _ (d .before .before .return-check .ensures) (d .enum-told .given .1) in
+    omega arith
+
+free-leaving-requires : tie.Need-free-leaving-requires
+free-leaving-requires c κs =
+    let d = c .before .before .before .before .before .before .before .before in
+    shown _ _ _ _ (d .before .before .return-check .ensures) (d .enum-told .given .1) .buffers .control
+
+clear-invocation-requires : tie.Need-clear-invocation-requires
+clear-invocation-requires c κs =
+    let d = c .before .before .before .before .before .before .before .before .before .before .before .before in
+    let f = shown _ _ _ _ (d .before .before .return-check .ensures) (d .enum-told .given .1) in
+    omega arith
+
+sub-set-invocations : tie.Need-sub-set-invocations
+sub-set-invocations c =
+    let d = c .before .before .before .before .before .before .before .before .before .before .before .before .before .before .before .before in
+    let f = shown _ _ _ _ (d .before .before .return-check .ensures) (d .enum-told .given .1) in
+    omega arith
+
+set-invocations-requires : tie.Need-set-invocations-requires
+set-invocations-requires c κs =
+    let d = c .before .before .before .before .before .before .before .before .before .before .before .before .before .before .before .before in
+    let f = shown _ _ _ _ (d .before .before .return-check .ensures) (d .enum-told .given .1) in
+    omega arith
+
+same-length-2 : tie.Need-same-length-2
+same-length-2 c = search needs
+
+same-length-3 : tie.Need-same-length-3
+same-length-3 c = search needs
+
+returns-2 : tie.Need-returns-2
+returns-2 c =
+    let d₃ = c .before .before .before .before .before .before in
+    let d₂ = d₃ .before .before .before .before in
+    let d₁ = d₂ .before .before .before .before .before .before .before in
+    goes-on _ _ _ _ (d₁ .before .before .before .before .return-check .ensures) (d₁ .before .before .enum-told .given .1) (d₁ .invocation-count .ensures .0)
+    (d₂ .before .before .before .before .read-registers .ensures) (d₂ .free-leaving .ensures) (d₃ .clear-invocation .ensures) (c .before .before .set-invocations .ensures)
+
+pub return-from-spec : {M : Type 1} → statement M
+return-from-spec =
+    tie.close
+    (tie.spec
+    return-check-requires
+    enum-known-check
+    number-requires
+    same-length
+    returns
+    enum-told
+    invocation-count-requires
+    read-registers-requires
+    sub-free-leaving
+    free-leaving-requires
+    clear-invocation-requires
+    sub-set-invocations
+    set-invocations-requires
+    same-length-2
+    same-length-3
+    returns-2)

@@ -1,0 +1,121 @@
+-- Document 01, "Begin, call, return, resize": begin, call and return. Assumes nothing.
+use Prim.Native.Nat.{ℕ, zero, suc, _+_, _-_, _*_, _/_}
+use mathlib.Core.Bool.{Bool}
+use mathlib.Core.List.{List, _++_}
+use lib.ListN.{length}
+use lib.Dec.{ltb, leb, eqb}
+use Rattle.words.specs.Words.{wordBytes, splice, zeros}
+use Rattle.choice.specs.Choice.{pick, both, either}
+use Rattle.refusal.specs.Checks.{need, _then_, checkNumber, orKeep}
+use Rattle.refusal.specs.declared.Check.{Check}
+use Rattle.refusal.specs.declared.Refusal.the-variants.{Invalid, BadRequest, NoSegment, DepthLimit}
+use Rattle.snapshot.specs.Header.{snapshotValid}
+use Rattle.snapshot.specs.Accounts.{known, entryOf, entryValid, exists}
+use Rattle.snapshot.specs.declared.accounts.Account.{Account}
+use Rattle.control.specs.Control.{shadowAt, tableAt, frameEntrySize, frameLimit, liveLimit, registersSize, controlLength, poolLength, frames, invocations, depth, setInvocations, recordAt, current, putInvocation, clearInvocation, registersOf, buffersValid}
+use Rattle.control.specs.declared.shadow.Region.the-variants.{Stack, Heap}
+use Rattle.frames.specs.Table.{frameEntryOf, freeFrameEntry, usageOf}
+use Rattle.frames.specs.declared.table.FrameEntry.{FrameEntry}
+
+-- "4 (not below A), 1 (entry unfit), 4 (does not exist)"
+unfoldable pub programCheck : List ℕ → Account → Check
+programCheck s a =
+    need (known s a) NoSegment
+    then need (entryValid s a) Invalid
+    then need (exists (entryOf s a)) NoSegment
+
+-- ---- begin
+
+-- the F that a control block of this length has room for
+abbrev pub framesIn : ℕ → ℕ
+framesIn size = (size - tableAt) / frameEntrySize
+
+-- "ledger length 4,504+8F for some F in range; pool 4,096F"
+unfoldable pub roomValid : ℕ → ℕ → Bool
+roomValid control pool =
+    both (leb tableAt control)
+    (both (leb (framesIn control) frameLimit)
+    (both (eqb control (controlLength (framesIn control))) (eqb pool (poolLength (framesIn control)))))
+
+-- "Order: 1 (ground; ledger length ..; pool ..), 4 (not below A), 1 (entry unfit), 4 (does not exist)"
+unfoldable pub beginCheck : List ℕ → ℕ → ℕ → Account → Check
+beginCheck s control pool a = need (both (snapshotValid s) (roomValid control pool)) Invalid then programCheck s a
+
+-- "Header of four u32: frame count F, live invocations D, offset of shadow frames (16), offset of the frame table (4,504)"
+unfoldable pub headerBytes : ℕ → ℕ → List ℕ
+headerBytes f d = wordBytes 4 f ++ (wordBytes 4 d ++ (wordBytes 4 shadowAt ++ wordBytes 4 tableAt))
+
+-- "It writes the whole ledger: header with D=1, frame 1 with that program and no pages, zeros elsewhere."
+unfoldable pub fresh : ℕ → Account → List ℕ
+fresh size a = splice (splice (zeros size) 0 (headerBytes (framesIn size) 1)) (recordAt 1) (wordBytes 2 (a .0))
+
+-- begin's number
+unfoldable pub beginNumber : List ℕ → List ℕ → List ℕ → Account → ℕ
+beginNumber s c p a = checkNumber (beginCheck s (length c) (length p) a)
+
+-- the control block after begin; "Pool stays."
+unfoldable pub beginControl : List ℕ → List ℕ → List ℕ → Account → List ℕ
+beginControl s c p a = orKeep (beginCheck s (length c) (length p) a) c (fresh (length c) a)
+
+-- ---- call
+
+-- "1, 2, 9, then 4 and entry as for begin"
+unfoldable pub callCheck : List ℕ → List ℕ → List ℕ → Account → ℕ → Check
+callCheck s c p a size =
+    need (buffersValid s c p) Invalid
+    then need (eqb size registersSize) BadRequest
+    then need (ltb (invocations c) liveLimit) DepthLimit
+    then programCheck s a
+
+-- "D rises by one, and the new frame D holds the program, the caller's two sizes, two zero bytes and those registers"
+unfoldable pub called : List ℕ → Account → List ℕ → List ℕ
+called c a registers =
+    setInvocations
+    (putInvocation c (invocations c + 1) (record { program = a; stack = current c .stack; heap = current c .heap }) registers)
+    (invocations c + 1)
+
+-- a call's number
+unfoldable pub callNumber : List ℕ → List ℕ → List ℕ → Account → List ℕ → ℕ
+callNumber s c p a registers = checkNumber (callCheck s c p a (length registers))
+
+-- the control block after a call
+unfoldable pub callControl : List ℕ → List ℕ → List ℕ → Account → List ℕ → List ℕ
+callControl s c p a registers = orKeep (callCheck s c p a (length registers)) c (called c a registers)
+
+-- ---- return
+
+-- "1, 2, 9"
+unfoldable pub returnCheck : List ℕ → List ℕ → List ℕ → ℕ → Check
+returnCheck s c p size =
+    need (buffersValid s c p) Invalid
+    then need (eqb size registersSize) BadRequest
+    then need (ltb 1 (invocations c)) DepthLimit
+
+-- "every stack and heap frame whose tag is at or above D−1"
+unfoldable pub leaves : ℕ → FrameEntry → Bool
+leaves d e = both (either (eqb (e .usage) (usageOf Stack)) (eqb (e .usage) (usageOf Heap))) (leb d (e .tag))
+
+-- such a frame freed, any other left
+unfoldable pub freeLeaving : ℕ → List ℕ → ℕ → List ℕ
+freeLeaving d c i = pick (leaves d (frameEntryOf c i)) (freeFrameEntry c i) c
+
+-- the first n frames done
+unfoldable pub freedBelow : ℕ → List ℕ → ℕ → List ℕ
+freedBelow d c zero = c
+freedBelow d c (suc n) = freeLeaving d (freedBelow d c n) n
+
+-- "frees .., zeroes shadow frame D and lowers D"
+unfoldable pub returned : List ℕ → List ℕ
+returned c = setInvocations (clearInvocation (freedBelow (depth c) c (frames c)) (invocations c)) (invocations c - 1)
+
+-- a return's number
+unfoldable pub returnNumber : List ℕ → List ℕ → List ℕ → List ℕ → ℕ
+returnNumber s c p out = checkNumber (returnCheck s c p (length out))
+
+-- the control block after a return
+unfoldable pub returnControl : List ℕ → List ℕ → List ℕ → List ℕ → List ℕ
+returnControl s c p out = orKeep (returnCheck s c p (length out)) c (returned c)
+
+-- "It hands back frame D's registers"
+unfoldable pub returnOut : List ℕ → List ℕ → List ℕ → List ℕ → List ℕ
+returnOut s c p out = orKeep (returnCheck s c p (length out)) out (registersOf c (invocations c))

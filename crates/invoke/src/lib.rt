@@ -1,0 +1,4 @@
+// Invocations: begin, call, return.
+pub mod begin;
+pub mod calls;
+pub mod program;

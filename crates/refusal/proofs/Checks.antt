@@ -1,0 +1,51 @@
+-- A chain of checks that passes: each of its tests passed. One that stops: at the first test that fails. Assumes nothing.
+use mathlib.Core.Path.{_≡_, refl}
+use mathlib.Core.Bool.{Bool, true, false}
+use Prim.Native.Nat.{ℕ}
+use native.Mathlib.Omega.{arith}
+use Rattle.refusal.specs.Checks.{need, _then_}
+use Rattle.refusal.specs.declared.Refusal.{Refusal}
+use Rattle.refusal.specs.declared.Check.{Check}
+use Rattle.refusal.specs.declared.Check.the-variants.{Pass, Stop}
+
+-- a refusal is no pass
+pub stop≢pass : {r : Refusal} → Stop r ≡ Pass → ⊥
+stop≢pass e = let z : _≡_ {A = ℕ} 0 1 = cc in omega arith
+
+-- a test that passes goes on to the rest
+pub need-on : (b : Bool) (r : Refusal) (d : Check) → b ≡ true → (need b r then d) ≡ d
+unfolding need _then_
+need-on b r d e = rw e
+
+-- a test that fails is the answer
+pub need-stop : (b : Bool) (r : Refusal) (d : Check) → b ≡ false → (need b r then d) ≡ Stop r
+unfolding need _then_
+need-stop b r d e = rw e
+
+-- the last test of a chain passes
+pub need-last : (b : Bool) (r : Refusal) → b ≡ true → need b r ≡ Pass
+unfolding need
+need-last b r e = rw e
+
+-- the last test of a chain fails
+pub need-refused : (b : Bool) (r : Refusal) → b ≡ false → need b r ≡ Stop r
+unfolding need
+need-refused b r e = rw e
+
+-- a last test that passed
+pub need-pass : (b : Bool) (r : Refusal) → need b r ≡ Pass → b ≡ true
+unfolding need
+need-pass true r e = refl
+need-pass false r e = absurd (stop≢pass e)
+
+-- both parts of a chain that passed
+pub then-pass : (q d : Check) → (q then d) ≡ Pass → (q ≡ Pass) × (d ≡ Pass)
+unfolding _then_
+then-pass Pass d e = (refl, e)
+then-pass (Stop r) d e = absurd (stop≢pass e)
+
+-- the first test of a chain that passed, and the rest of it
+pub need-then : (b : Bool) (r : Refusal) (d : Check) → (need b r then d) ≡ Pass → (b ≡ true) × (d ≡ Pass)
+need-then b r d e =
+    let t : (need b r ≡ Pass) × (d ≡ Pass) = then-pass (need b r) d e in
+    (need-pass b r (t .0), t .1)

@@ -1,0 +1,5 @@
+pub mod Arms
+pub mod Accepted
+pub mod Stores
+pub mod Places
+pub mod Length

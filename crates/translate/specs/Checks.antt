@@ -1,0 +1,27 @@
+-- Document 01, "Order for an access": the tests in their order. Assumes nothing.
+use Prim.Native.Nat.{ℕ}
+use mathlib.Core.Bool.{Bool}
+use lib.Dec.{ltb, leb}
+use Rattle.refusal.specs.Checks.{need, _then_}
+use Rattle.refusal.specs.declared.Check.{Check}
+use Rattle.refusal.specs.declared.Refusal.the-variants.{Invalid, BadRequest, BadAddress, Absent, Misaligned, Crossing, NotPermitted}
+use Rattle.address.specs.Address.{addresses}
+use Rattle.segments.specs.Kinds.{requestValid, aligned, within}
+use Rattle.translate.specs.declared.request.Request.{Request}
+
+-- the numbers before the segment is known: "1 for headers, buffer lengths and frame D ..; 2; 3 for upper bits"
+unfoldable pub firstChecks : Bool → ℕ → ℕ → ℕ → Check
+firstChecks buffers kind a n =
+    need buffers Invalid
+    then need (requestValid kind n) BadRequest
+    then need (ltb a addresses) BadAddress
+
+-- the numbers once the segment is known: "1 for the entry of the account concerned; 5; 7 by the table's fixed, account and fetch
+-- rules; 6; 3 for presence". `room` is how many bytes are present from the offset on.
+unfoldable pub rowChecks : Bool → Bool → Request → ℕ → Check
+rowChecks entry permitted q room =
+    need entry Invalid
+    then need (aligned (q .kind) (q .offset) (q .length)) Misaligned
+    then need permitted NotPermitted
+    then need (within (q .offset) (q .length)) Crossing
+    then need (leb (q .length) room) Absent

@@ -1,0 +1,4 @@
+pub mod Place
+pub mod Checks
+pub mod Translate
+pub mod Fits

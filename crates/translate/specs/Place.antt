@@ -1,0 +1,17 @@
+-- Document 01, "Order for an access": what translation answers. Assumes nothing.
+use Prim.Native.Nat.{ℕ}
+use Rattle.refusal.specs.Numbers.{numberOf, done}
+use Rattle.refusal.specs.declared.Check.{Check}
+use Rattle.refusal.specs.declared.Check.the-variants.{Pass, Stop}
+use Rattle.translate.specs.declared.place.Translation.{Translation}
+use Rattle.translate.specs.declared.place.Translation.the-variants.{Allowed, Refused}
+
+-- the number of each answer: 0, or the refusal's
+abbrev pub numberOfAnswer : Translation → ℕ
+numberOfAnswer (Allowed q) = done
+numberOfAnswer (Refused r) = numberOf r
+
+-- what follows where the check passes, else its refusal
+abbrev pub refusing : Check → Translation → Translation
+refusing Pass t = t
+refusing (Stop r) t = Refused r

@@ -1,0 +1,176 @@
+-- Document 01, "Addresses and segments", "Order for an access" and "Copies": translation. Assumes nothing.
+use Prim.Native.Nat.{ℕ, _+_, _-_, _*_, _/_, _%_, _<_, _^_}
+use mathlib.Core.Path.{_≡_}
+use mathlib.Core.Bool.{Bool, true, false, not}
+use mathlib.Core.List.{List}
+use lib.Dec.{ltb, leb, eqb}
+use Rattle.choice.specs.Choice.{pick, both, either}
+use Rattle.refusal.specs.declared.Check.{Check}
+use Rattle.refusal.specs.declared.Refusal.the-variants.{Invalid, NoSegment, NotPermitted, NoFrame}
+use Rattle.address.specs.Address.{typeOf, indexOf, offsetOf, offsets}
+use Rattle.snapshot.specs.Header.{headerOf, accounts, contexts, transaction, contextSize, snapshotValid}
+use Rattle.snapshot.specs.Accounts.{entryOf, entryValid, exists, writable, dataLength, metadataAt, metadataSize}
+use Rattle.snapshot.specs.declared.accounts.Account.{Account}
+use Rattle.snapshot.specs.declared.accounts.AccountEntry.{AccountEntry}
+use Rattle.control.specs.Control.{shadowAt, tableAt, pageSize, depth, current, pagesOf, controlValid, currentValid, buffersValid}
+use Rattle.control.specs.declared.shadow.Region.{Region}
+use Rattle.control.specs.declared.shadow.Region.the-variants as region
+use Rattle.frames.specs.Table.{frameEntryOf, frameOf, freeFrame, frameStart}
+use Rattle.frames.specs.declared.table.Page.{Page}
+use Rattle.frames.specs.declared.table.Frame.{Frame}
+use Rattle.frames.specs.declared.finding.Claim.the-variants.{Copy, Anonymous}
+use Rattle.frames.specs.declared.finding.Found.{Found}
+use Rattle.frames.specs.declared.finding.Found.the-variants.{At, Nothing}
+use Rattle.segments.specs.Kinds.{isStore, requestValid}
+use Rattle.segments.specs.Rules.{rules, rowOf, permitted}
+use Rattle.segments.specs.declared.rules.Presence.{Presence}
+use Rattle.segments.specs.declared.rules.Presence.the-variants.{Transaction, Shadow, Program, Context, Metadata, Data, Stack, Heap}
+use Rattle.segments.specs.declared.rules.StoreRule.{StoreRule}
+use Rattle.segments.specs.declared.rules.Segment.{Segment}
+use Rattle.segments.specs.declared.rules.Segment.the-variants.{Is, Missing}
+use Rattle.translate.specs.Checks.{firstChecks, rowChecks}
+use Rattle.translate.specs.Place.{refusing}
+use Rattle.translate.specs.declared.request.Request.{Request}
+use Rattle.translate.specs.declared.place.Place.the-variants.{InSnapshot, InControl, Zeros, InPool, Take}
+use Rattle.translate.specs.declared.place.Translation.{Translation}
+use Rattle.translate.specs.declared.place.Translation.the-variants.{Allowed, Refused}
+
+-- ---- what a row asks
+
+-- the account that an index names
+abbrev pub indexed : Request → Account
+indexed q = record { 0 = q .index }
+
+-- the current program: "frame D must name a program"
+abbrev pub program : List ℕ → Account
+program c = current c .program
+
+-- "1 for the entry of the account concerned": the index's in types 2 and 3, the current program's in 0/3, none in the other rows
+unfoldable pub entryFit : List ℕ → List ℕ → Presence → Request → Bool
+entryFit s c Transaction q = true
+entryFit s c Shadow q = true
+entryFit s c Program q = entryValid s (program c)
+entryFit s c Context q = true
+entryFit s c Metadata q = entryValid s (indexed q)
+entryFit s c Data q = entryValid s (indexed q)
+entryFit s c Stack q = true
+entryFit s c Heap q = true
+
+-- "writable, and owned by the current program"
+abbrev pub ownedBy : AccountEntry → Account → Bool
+ownedBy e a = both (writable e) (eqb (e .owner .0) (a .0))
+
+-- the same of the account whose data the segment is; the other segments are no account's data
+unfoldable pub owned : List ℕ → List ℕ → Presence → Request → Bool
+owned s c Transaction q = false
+owned s c Shadow q = false
+owned s c Program q = false
+owned s c Context q = false
+owned s c Metadata q = false
+owned s c Data q = ownedBy (entryOf s (indexed q)) (program c)
+owned s c Stack q = false
+owned s c Heap q = false
+
+-- block context: "offset/4,096 below B and remainder below 120"
+abbrev pub contextRoom : ℕ → ℕ → ℕ
+contextRoom count offset = pick (ltb (offset / pageSize) count) (contextSize - offset % pageSize) 0
+
+-- stack: "top n stack pages: offsets from 2^24−4,096n"; heap: "lowest n heap pages"
+abbrev pub regionRoom : Region → ℕ → ℕ → ℕ
+regionRoom region.Stack n offset = pick (leb (offsets - pageSize * n) offset) (offsets - offset) 0
+regionRoom region.Heap n offset = pageSize * n - offset
+
+-- the column "Bytes present": how many bytes are present from the offset on, up to the first that is not
+unfoldable pub roomOf : List ℕ → List ℕ → Presence → Request → ℕ
+roomOf s c Transaction q = transaction s - q .offset
+roomOf s c Shadow q = tableAt - shadowAt - q .offset
+roomOf s c Program q = dataLength (entryOf s (program c)) - q .offset
+roomOf s c Context q = contextRoom (contexts s) (q .offset)
+roomOf s c Metadata q = metadataSize - q .offset
+roomOf s c Data q = dataLength (entryOf s (indexed q)) - q .offset
+roomOf s c Stack q = regionRoom region.Stack (current c .stack) (q .offset)
+roomOf s c Heap q = regionRoom region.Heap (current c .heap) (q .offset)
+
+-- the row's tests, in order
+unfoldable pub rowCheck : List ℕ → List ℕ → Presence → StoreRule → Request → Check
+rowCheck s c p rule q = rowChecks (entryFit s c p q) (permitted (q .kind) p rule (owned s c p q)) q (roomOf s c p q)
+
+-- ---- the place, once every byte is present
+
+-- a byte of a frame
+abbrev pub inFrame : Frame → ℕ → ℕ
+inFrame f offset = frameStart f + offset % pageSize
+
+-- "offset/4,096"
+abbrev pub pageOf : ℕ → Page
+pageOf offset = record { 0 = offset / pageSize }
+
+-- "An accepted store to an account page without a frame takes the lowest free frame"; "last 8"
+abbrev pub copyPlace : Account → ℕ → Found → Translation
+copyPlace a offset (At f) = Allowed (Take (inFrame f offset) f a (pageOf offset))
+copyPlace a offset Nothing = Refused NoFrame
+
+-- "A page with a frame is stored to in that frame. Later loads in type 3 and views read the frame"
+abbrev pub dataPlaceIn : List ℕ → ℕ → Account → ℕ → ℕ → Found → Translation
+dataPlaceIn c kind a start offset (At f) = Allowed (InPool (inFrame f offset))
+dataPlaceIn c kind a start offset Nothing =
+    pick (isStore kind) (copyPlace a offset (freeFrame c)) (Allowed (InSnapshot (start + offset)))
+
+-- the same, with the frame that the table names
+unfoldable pub dataPlace : List ℕ → ℕ → Account → ℕ → ℕ → Translation
+dataPlace c kind a start offset = dataPlaceIn c kind a start offset (frameOf c (Copy a (pageOf offset)))
+
+-- "for stack and heap 1 if no frame claims the page, 7 by tag for a store"; "tag at or above the depth"
+abbrev pub regionPlaceIn : List ℕ → ℕ → ℕ → Found → Translation
+regionPlaceIn c kind offset (At f) =
+    pick (either (not (isStore kind)) (leb (depth c) (frameEntryOf c (f .0) .tag))) (Allowed (InPool (inFrame f offset))) (Refused NotPermitted)
+regionPlaceIn c kind offset Nothing = Refused Invalid
+
+-- the same, with the frame that the table names
+unfoldable pub regionPlace : List ℕ → Region → ℕ → ℕ → Translation
+regionPlace c r kind offset = regionPlaceIn c kind offset (frameOf c (Anonymous r (pageOf offset)))
+
+-- the presence of a region's segment
+abbrev pub presenceOf : Region → Presence
+presenceOf region.Stack = Stack
+presenceOf region.Heap = Heap
+
+-- where the first byte stands, by the column "Bytes present". 000: "Non-existent accounts: zeroed metadata"
+unfoldable pub placeOf : List ℕ → List ℕ → Presence → Request → Translation
+placeOf s c Transaction q = Allowed (InSnapshot (headerOf s .«transaction_at» + q .offset))
+placeOf s c Shadow q = Allowed (InControl (shadowAt + q .offset))
+placeOf s c Program q = Allowed (InSnapshot (entryOf s (program c) .start + q .offset))
+placeOf s c Context q =
+    Allowed (InSnapshot (headerOf s .«contexts_at» + contextSize * (q .offset / pageSize) + q .offset % pageSize))
+placeOf s c Metadata q =
+    pick (exists (entryOf s (indexed q))) (Allowed (InSnapshot (metadataAt (indexed q) + q .offset))) (Allowed Zeros)
+placeOf s c Data q = dataPlace c (q .kind) (indexed q) (entryOf s (indexed q) .start) (q .offset)
+placeOf s c Stack q = regionPlace c region.Stack (q .kind) (q .offset)
+placeOf s c Heap q = regionPlace c region.Heap (q .kind) (q .offset)
+
+-- the row's tests, then the place
+unfoldable pub inRow : List ℕ → List ℕ → Presence → StoreRule → Request → Translation
+inRow s c p rule q = refusing (rowCheck s c p rule q) (placeOf s c p q)
+
+-- ---- translation
+
+-- "4", and then the row's
+unfoldable pub inSegment : List ℕ → List ℕ → Segment → Request → Translation
+inSegment s c Missing q = Refused NoSegment
+inSegment s c (Is r) q = inRow s c (r .presence) (r .store) q
+
+-- "Translation changes nothing and answers one of: a place in ground, a place in ledger, zeros, a place in pool, a frame that
+-- would be taken for a copy, or a refusal."
+unfoldable pub translateOf : List ℕ → List ℕ → List ℕ → ℕ → ℕ → ℕ → Translation
+translateOf s c p kind a n =
+    refusing (firstChecks (buffersValid s c p) kind a n)
+    (inSegment s c (rowOf rules (typeOf a) (indexOf a) (accounts s))
+    (record { kind = kind; index = indexOf a; offset = offsetOf a; length = n }))
+
+-- what is known once the first tests have passed
+pub record Ready (s c : List ℕ) (q : Request) : Type 0 where
+  pub snapshot : snapshotValid s ≡ true
+  pub control : controlValid c ≡ true
+  pub current : currentValid c (accounts s) ≡ true
+  pub request : requestValid (q .kind) (q .length) ≡ true
+  pub offset : q .offset < 2 ^ 24
