@@ -1,0 +1,6 @@
+pub mod OnlyTable
+pub mod Pages
+pub mod Grown
+pub mod Shrunk
+pub mod Listed
+pub mod Gives
