@@ -1,0 +1,3 @@
+pub mod PageBytes
+pub mod Answers
+pub mod Copies

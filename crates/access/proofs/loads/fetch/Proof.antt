@@ -1,0 +1,48 @@
+-- `access::loads::fetch` meets its contract: it gives back translation's refusal, or the value at its place, which has room for the bytes.
+-- Assumes nothing.
+use native.Mathlib.Omega.{arith}
+use borrow.Author.Needs.{needs}
+use Rattle.access.specs.Loads.{fetchOf}
+use Rattle.access.proofs.Answers.{refused-value, place-room, place-short, given-value}
+use Rattle.access.proofs.loads.fetch.Statement.{statement}
+use Rattle.access.proofs.loads.fetch.Tie as tie
+
+translate-requires : tie.Need-translate-requires
+translate-requires c κs = search needs
+
+enum-known-answer : tie.Need-enum-known-answer
+enum-known-answer c = search needs
+
+enum-told : tie.Need-enum-told
+enum-told c = search needs
+
+number-of-requires : tie.Need-number-of-requires
+number-of-requires c κs = search needs
+
+returns : tie.Need-returns
+unfolding fetchOf
+returns c =
+    refused-value _ _ _ _ _ _ _ (c .before .before .before .translate .ensures) _ (c .before .enum-told .given .1) _ (c .number-of .ensures)
+
+value-at-requires : tie.Need-value-at-requires
+value-at-requires c κs =
+    let i = c .before .before .before .translate .ensures in
+    let e = c .before .answer .given .1 in
+    (place-short _ _ _ _ _ _ _ i _ e (omega arith), place-room _ _ _ _ _ _ _ i _ e)
+
+returns-2 : tie.Need-returns-2
+unfolding fetchOf
+returns-2 c =
+    given-value _ _ _ _ _ _ _ (c .before .before .before .before .translate .ensures) _ (c .before .before .answer .given .1) _ (c .value-at .ensures)
+
+pub fetch-spec : {M : Type 1} → statement M
+fetch-spec =
+    tie.close
+    (tie.spec
+    translate-requires
+    enum-known-answer
+    enum-told
+    number-of-requires
+    returns
+    value-at-requires
+    returns-2)

@@ -1,0 +1,68 @@
+-- Document 01, "Order for an access" and "Copies": stores and span stores. Assumes nothing.
+use Prim.Native.Nat.{ℕ}
+use mathlib.Core.List.{List}
+use lib.ListN.{length}
+use Rattle.words.specs.Words.{splice}
+use Rattle.frames.specs.Table.{putFrameEntry, frameStart}
+use Rattle.translate.specs.Place.{numberOfAnswer}
+use Rattle.translate.specs.Translate.{translateOf}
+use Rattle.translate.specs.declared.place.Place.{Place}
+use Rattle.translate.specs.declared.place.Place.the-variants.{InSnapshot, InControl, Zeros, InPool, Take}
+use Rattle.translate.specs.declared.place.Translation.{Translation}
+use Rattle.translate.specs.declared.place.Translation.the-variants.{Allowed, Refused}
+use Rattle.access.specs.Pages.{copyEntry, originalPage}
+use Rattle.translate.specs.Fits.{CopyFits}
+
+-- a store's place is in the pool, or a frame to be taken: translation gives a store no other
+abbrev pub Writable : List ℕ → List ℕ → List ℕ → Place → Type 0
+Writable s c p (InSnapshot at) = ⊥
+Writable s c p (InControl at) = ⊥
+Writable s c p Zeros = ⊥
+Writable s c p (InPool at) = Unit {0}
+Writable s c p (Take at f a q) = CopyFits s c p f a q
+
+-- where the bytes go, once the page has its frame
+abbrev pub placeInPool : Place → ℕ
+placeInPool (InSnapshot at) = 0
+placeInPool (InControl at) = 0
+placeInPool Zeros = 0
+placeInPool (InPool at) = at
+placeInPool (Take at f a q) = at
+
+-- "takes the lowest free frame, writes its entry"
+abbrev pub preparedControl : List ℕ → Place → List ℕ
+preparedControl c (InSnapshot at) = c
+preparedControl c (InControl at) = c
+preparedControl c Zeros = c
+preparedControl c (InPool at) = c
+preparedControl c (Take at f a q) = putFrameEntry c (f .0) (copyEntry a q)
+
+-- "copies the page's original bytes, fills the rest with zeros"
+abbrev pub preparedPool : List ℕ → List ℕ → Place → List ℕ
+preparedPool s p (InSnapshot at) = p
+preparedPool s p (InControl at) = p
+preparedPool s p Zeros = p
+preparedPool s p (InPool at) = p
+preparedPool s p (Take at f a q) = splice p (frameStart f) (originalPage s a q)
+
+-- the control block after an answer: a refusal leaves it
+abbrev pub controlAfter : List ℕ → Translation → List ℕ
+controlAfter c (Allowed q) = preparedControl c q
+controlAfter c (Refused r) = c
+
+-- the pool after an answer: "then stores"
+abbrev pub poolAfter : List ℕ → List ℕ → List ℕ → Translation → List ℕ
+poolAfter s p bytes (Allowed q) = splice (preparedPool s p q) (placeInPool q) bytes
+poolAfter s p bytes (Refused r) = p
+
+-- a store's number, of either kind
+unfoldable pub storeNumber : List ℕ → List ℕ → List ℕ → ℕ → ℕ → ℕ → ℕ
+storeNumber s c p kind a n = numberOfAnswer (translateOf s c p kind a n)
+
+-- the control block after a store
+unfoldable pub storeControl : List ℕ → List ℕ → List ℕ → ℕ → ℕ → ℕ → List ℕ
+storeControl s c p kind a n = controlAfter c (translateOf s c p kind a n)
+
+-- the pool after a store of these bytes
+unfoldable pub storePool : List ℕ → List ℕ → List ℕ → ℕ → ℕ → List ℕ → List ℕ
+storePool s c p kind a bytes = poolAfter s p bytes (translateOf s c p kind a (length bytes))
