@@ -63,11 +63,11 @@ pub fn load(s: &[u8], c: &[u8], pool: &[u8], a: Address, n: usize) -> Value
 pub fn fetch(s: &[u8], c: &[u8], pool: &[u8], a: Address, n: usize) -> Value
     ensures { λ r. ⌜ r ≡ fetchOf (now (s .entry)) (now (c .entry)) (now (pool .entry)) (a .0) n ⌝ }
 {
-    let answer = translate(s, c, pool, FETCH, a, n);
-    let Translation::Allowed(place) = answer else {
+    let fetched = translate(s, c, pool, FETCH, a, n);
+    let Translation::Allowed(place) = fetched else {
         return Value {
             value: 0,
-            number: number_of(answer),
+            number: number_of(fetched),
         };
     };
     Value {

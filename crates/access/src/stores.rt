@@ -61,9 +61,9 @@ pub fn store_span(s: &[u8], c: &mut [u8], pool: &mut [u8], a: Address, bytes: &[
     ensures { λ _. ⌜ now (c .exit) ≡ storeControl (now (s .entry)) (now (c .entry)) (now (pool .entry)) kindStoreSpan (a .0) (length (now (bytes .entry))) ⌝ }
     ensures { λ _. ⌜ now (pool .exit) ≡ storePool (now (s .entry)) (now (c .entry)) (now (pool .entry)) kindStoreSpan (a .0) (now (bytes .entry)) ⌝ }
 {
-    let answer = translate(s, c, pool, STORE_SPAN, a, bytes.len());
-    let Translation::Allowed(place) = answer else {
-        return number_of(answer);
+    let spanned = translate(s, c, pool, STORE_SPAN, a, bytes.len());
+    let Translation::Allowed(place) = spanned else {
+        return number_of(spanned);
     };
     let at = make_writable(s, c, pool, place);
     copy(pool, at, bytes, 0, bytes.len());

@@ -10,8 +10,8 @@ use Rattle.access.proofs.loads.fetch.Tie as tie
 translate-requires : tie.Need-translate-requires
 translate-requires c κs = search needs
 
-enum-known-answer : tie.Need-enum-known-answer
-enum-known-answer c = search needs
+enum-known-fetched : tie.Need-enum-known-fetched
+enum-known-fetched c = search needs
 
 enum-told : tie.Need-enum-told
 enum-told c = search needs
@@ -27,20 +27,20 @@ returns c =
 value-at-requires : tie.Need-value-at-requires
 value-at-requires c κs =
     let i = c .before .before .before .translate .ensures in
-    let e = c .before .answer .given .1 in
+    let e = c .before .fetched .given .1 in
     (place-short _ _ _ _ _ _ _ i _ e (omega arith), place-room _ _ _ _ _ _ _ i _ e)
 
 returns-2 : tie.Need-returns-2
 unfolding fetchOf
 returns-2 c =
-    given-value _ _ _ _ _ _ _ (c .before .before .before .before .translate .ensures) _ (c .before .before .answer .given .1) _ (c .value-at .ensures)
+    given-value _ _ _ _ _ _ _ (c .before .before .before .before .translate .ensures) _ (c .before .before .fetched .given .1) _ (c .value-at .ensures)
 
 pub fetch-spec : {M : Type 1} → statement M
 fetch-spec =
     tie.close
     (tie.spec
     translate-requires
-    enum-known-answer
+    enum-known-fetched
     enum-told
     number-of-requires
     returns

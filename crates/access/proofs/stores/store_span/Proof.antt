@@ -11,8 +11,8 @@ use Rattle.access.proofs.stores.store_span.Tie as tie
 translate-requires : tie.Need-translate-requires
 translate-requires c κs = search needs
 
-enum-known-answer : tie.Need-enum-known-answer
-enum-known-answer c = search needs
+enum-known-spanned : tie.Need-enum-known-spanned
+enum-known-spanned c = search needs
 
 enum-told : tie.Need-enum-told
 enum-told c = search needs
@@ -32,12 +32,12 @@ returns c =
 
 make-writable-requires : tie.Need-make-writable-requires
 make-writable-requires c κs =
-    place-writable _ _ _ _ _ _ _ (c .before .before .before .before .before .translate .ensures) _ (c .before .before .before .answer .given .1) refl
+    place-writable _ _ _ _ _ _ _ (c .before .before .before .before .before .translate .ensures) _ (c .before .before .before .spanned .given .1) refl
 
 copy-requires : tie.Need-copy-requires
 copy-requires c κs =
     let i = c .before .before .before .before .before .before .before .before .before .before .before .translate .ensures in
-    let e = c .before .before .before .before .before .before .before .before .before .answer .given .1 in
+    let e = c .before .before .before .before .before .before .before .before .before .spanned .given .1 in
     let m = c .before .before .before .before .before .make-writable .ensures in
     (place-long _ _ _ _ _ _ _ i _ e, place-fits _ _ _ _ _ _ _ i _ e refl _ _ (m .0) (m .1 .1), omega arith)
 
@@ -50,7 +50,7 @@ same-length-4 c = search needs
 returns-2 : tie.Need-returns-2
 returns-2 c =
     let m = c .before .before .before .before .before .before .before .before .make-writable .ensures in
-    given-store _ _ _ _ _ _ _ (c .before .before .before .before .before .before .before .before .before .before .before .before .before .before .translate .ensures) _ (c .before .before .before .before .before .before .before .before .before .before .before .before .answer .given .1) _ refl _ _ _ _ (m .0) (m .1 .0) (m .1 .1)
+    given-store _ _ _ _ _ _ _ (c .before .before .before .before .before .before .before .before .before .before .before .before .before .before .translate .ensures) _ (c .before .before .before .before .before .before .before .before .before .before .before .before .spanned .given .1) _ refl _ _ _ _ (m .0) (m .1 .0) (m .1 .1)
     (c .before .before .copy .ensures ∙ rw run-all)
 
 pub store-span-spec : {M : Type 1} → statement M
@@ -58,7 +58,7 @@ store-span-spec =
     tie.close
     (tie.spec
     translate-requires
-    enum-known-answer
+    enum-known-spanned
     enum-told
     number-of-requires
     same-length
