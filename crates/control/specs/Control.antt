@@ -7,7 +7,6 @@ use lib.Dec.{ltb, leb, eqb}
 use Rattle.words.specs.Words.{wordAt, wordBytes, bytesAt, splice, zeros}
 use Rattle.choice.specs.Choice.{both}
 use Rattle.snapshot.specs.Header.{accounts, snapshotValid}
-use Rattle.snapshot.specs.declared.accounts.Account.{Account}
 use Rattle.control.specs.declared.shadow.Region.{Region}
 use Rattle.control.specs.declared.shadow.Region.the-variants.{Stack, Heap}
 use Rattle.control.specs.declared.shadow.Invocation.{Invocation}

@@ -6,14 +6,12 @@ use mathlib.Core.Bool.{Bool, true, false}
 use mathlib.Core.List.{List}
 use native.Mathlib.Nat.{sub-zero}
 use native.Mathlib.Omega.{arith}
-use lib.Dec.{leb, eqb}
-use lib.ListN.{length, getD}
-use borrow.Author.Tests.{leb-true, eqb-true}
+use lib.Dec.{eqb}
+use lib.ListN.{getD}
 use Rattle.words.specs.Words.{wordAt}
 use Rattle.choice.specs.Search.{seek, lowest}
-use Rattle.choice.proofs.Tests.{by-test, both-true}
+use Rattle.choice.proofs.Tests.{by-test}
 use Rattle.choice.proofs.Lowest.{seek-hit, seek-miss, seek-end}
-use Rattle.control.specs.Control.{shadowAt, tableAt, frameLimit, liveLimit, frames, invocations, controlLength, controlValid}
 use Rattle.frames.specs.Table.{frameEntryAt, frameField, isFree}
 
 -- a word at a field's place is the field

@@ -1,7 +1,6 @@
 -- What lies below the frame table and what lies in it stand apart: a write of an entry leaves the header and the shadow records,
 -- and a write below the table leaves every entry. Assumes nothing.
 use mathlib.Core.Path.{_≡_, ap}
-use mathlib.Core.Bool.{true}
 use mathlib.Core.List.{List}
 use Prim.Native.Nat.{ℕ, _+_, _≤_}
 use native.Mathlib.Omega.{arith}

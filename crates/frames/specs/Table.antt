@@ -6,11 +6,9 @@ use lib.Dec.{ltb, eqb}
 use Rattle.words.specs.Words.{wordAt, wordBytes, splice}
 use Rattle.choice.specs.Choice.{pick, both}
 use Rattle.choice.specs.Search.{lowest, count}
-use Rattle.snapshot.specs.declared.accounts.Account.{Account}
 use Rattle.control.specs.Control.{tableAt, frameEntrySize, frames, pageSize}
 use Rattle.control.specs.declared.shadow.Region.{Region}
 use Rattle.control.specs.declared.shadow.Region.the-variants.{Stack, Heap}
-use Rattle.frames.specs.declared.table.Page.{Page}
 use Rattle.frames.specs.declared.table.Frame.{Frame}
 use Rattle.frames.specs.declared.table.FrameEntry.{FrameEntry}
 use Rattle.frames.specs.declared.finding.Claim.{Claim}

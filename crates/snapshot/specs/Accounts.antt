@@ -1,6 +1,6 @@
 -- Document 01, "Three lent buffers": the account entries of the ground, here the snapshot s. Assumes nothing.
 use Prim.Native.Nat.{ℕ, _+_, _*_, _/_, _%_, _^_}
-use mathlib.Core.Bool.{Bool, true, not}
+use mathlib.Core.Bool.{Bool, not}
 use mathlib.Core.List.{List}
 use lib.Dec.{ltb, leb, eqb}
 use Rattle.words.specs.Words.{wordAt, bytesAt, zeros}

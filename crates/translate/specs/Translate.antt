@@ -12,7 +12,7 @@ use Rattle.snapshot.specs.Header.{headerOf, accounts, contexts, transaction, co
 use Rattle.snapshot.specs.Accounts.{entryOf, entryValid, exists, writable, dataLength, metadataAt, metadataSize}
 use Rattle.snapshot.specs.declared.accounts.Account.{Account}
 use Rattle.snapshot.specs.declared.accounts.AccountEntry.{AccountEntry}
-use Rattle.control.specs.Control.{shadowAt, tableAt, pageSize, depth, current, pagesOf, controlValid, currentValid, buffersValid}
+use Rattle.control.specs.Control.{shadowAt, tableAt, pageSize, depth, current, controlValid, currentValid, buffersValid}
 use Rattle.control.specs.declared.shadow.Region.{Region}
 use Rattle.control.specs.declared.shadow.Region.the-variants as region
 use Rattle.frames.specs.Table.{frameEntryOf, frameOf, freeFrame, frameStart}

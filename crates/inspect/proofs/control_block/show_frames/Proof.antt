@@ -1,6 +1,6 @@
 -- `inspect::control_block::show_frames` meets its contract. The loop's invariant: i is at most the frame count, which the control block's
 -- length has room for. Assumes nothing.
-use Prim.Native.Nat.{ℕ, _≤_, _-_}
+use Prim.Native.Nat.{_≤_, _-_}
 use mathlib.Core.Path.{_≡_}
 use native.Mathlib.Omega.{arith}
 use Rattle.control.specs.Control.{frames}

@@ -1,6 +1,6 @@
 -- `inspect::control_block::show_invocations` meets its contract. The loop's invariant: k is at most one more than the live count, of
 -- which there are at most 16. Assumes nothing.
-use Prim.Native.Nat.{ℕ, _+_, _≤_, _-_}
+use Prim.Native.Nat.{_+_, _≤_, _-_}
 use mathlib.Core.Path.{_≡_}
 use native.Mathlib.Omega.{arith}
 use Rattle.control.specs.Control.{invocations}

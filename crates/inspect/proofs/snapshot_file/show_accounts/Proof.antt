@@ -1,7 +1,6 @@
 -- `inspect::snapshot_file::show_accounts` meets its contract: the loop counts to 64. Assumes nothing.
-use Prim.Native.Nat.{ℕ, _≤_, _-_}
+use Prim.Native.Nat.{_≤_, _-_}
 use native.Mathlib.Omega.{arith}
-use mathlib.Core.Logic.{⊎-elim}
 use Rattle.inspect.proofs.snapshot_file.show_accounts.Statement.{statement}
 use Rattle.inspect.proofs.snapshot_file.show_accounts.Tie as tie
 
