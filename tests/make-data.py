@@ -85,7 +85,11 @@ def walk():
     yield "snapshot", edges_snapshot(0, b"")
 
 
-for name, files in (("inspect", inspect()), ("edges", edges()), ("walk", walk())):
+def bookings():
+    yield "snapshot", edges_snapshot(1, bytes(i % 251 for i in range(6000)))
+
+
+for name, files in (("inspect", inspect()), ("edges", edges()), ("walk", walk()), ("bookings", bookings())):
     for file, content in files:
         with open(os.path.join(crates, name, "data", file), "wb") as f:
             f.write(content)

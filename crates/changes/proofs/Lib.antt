@@ -1,0 +1,11 @@
+pub mod Every
+pub mod Ascending
+pub mod Codes
+pub mod Apart
+pub mod Listable
+pub mod Written
+pub mod Answers
+pub mod Parts
+pub mod Good
+pub mod Applied
+pub mod Shown

@@ -1,0 +1,95 @@
+-- The two forms of the test that every copy can be listed: the definition's, entry by entry, and the code's, which looks for pages
+-- claimed twice among the ascending codes. Assumes nothing.
+use Prim.Native.Nat.{ℕ, _≤_, _<_}
+use mathlib.Core.Path.{_≡_, sym, _∙_}
+use mathlib.Core.Bool.{Bool, true, false, not}
+use mathlib.Core.List.{List}
+use native.Mathlib.Omega.{arith}
+use lib.ListN.{getD}
+use borrow.Author.Tests.{eqb-true, eq-eqb, not-true, not-false}
+use Rattle.choice.specs.Choice.{both}
+use Rattle.choice.proofs.Tests.{by-test, differ, both-true}
+use Rattle.snapshot.specs.Accounts.{known, entryValid}
+use Rattle.frames.specs.Table.{frameEntryOf, claims}
+use Rattle.frames.specs.declared.finding.Claim.the-variants.{Copy}
+use Rattle.frames.proofs.Entries.{EntryRange, entry-range}
+use Rattle.frames.proofs.Claims.{claims-copy, copy-claims}
+use Rattle.frames.proofs.Loops.{fails}
+use Rattle.changes.specs.List.{isCopy, every, claimedBefore, copyListable, listable}
+use Rattle.changes.specs.Copies.{codesBelow, keyTwice, pageListable, entryListable}
+use Rattle.changes.proofs.Every.{every-at, every-all}
+use Rattle.changes.proofs.Apart.{Apart, once-apart, apart-once}
+
+-- entry j's page can be listed, but for a claim before it
+abbrev fit : List ℕ → List ℕ → ℕ → Bool
+fit s c j = pageListable s (frameEntryOf c j .account) (frameEntryOf c j .page)
+
+-- entry i claims the page of entry j
+abbrev claimsToo : List ℕ → ℕ → ℕ → Bool
+claimsToo c j i = claims c (Copy (frameEntryOf c j .account) (frameEntryOf c j .page)) i
+
+-- a copy can be listed where its page can and is not claimed before
+copy-listable : (s c : List ℕ) (j : ℕ) → copyListable s c j ≡ both (fit s c j) (not (claimedBefore c j))
+unfolding copyListable pageListable
+copy-listable s c j =
+    by-test (known s (frameEntryOf c j .account))
+    (λ e. rw e (by-test (entryValid s (frameEntryOf c j .account)) (λ q. rw q) (λ q. rw q)))
+    (λ e. rw e)
+
+-- what the definition's test says of a copy
+listed : (s c : List ℕ) (j : ℕ) → isCopy c j ≡ true → listable s c j ≡ true → (fit s c j ≡ true) × (not (claimedBefore c j) ≡ true)
+unfolding listable
+listed s c j q t = both-true (fit s c j) (not (claimedBefore c j)) (sym (copy-listable s c j) ∙ rw q at t)
+
+module _ (s c : List ℕ) (bytes : (k : ℕ) → getD c k 0 < 256) (n : ℕ) (few : n ≤ 1024) where
+  -- where every entry can be listed, no two copies are of one page
+  listable-apart : every (listable s c) n ≡ true → Apart c n
+  unfolding claimedBefore
+  listable-apart h i j l m p q e =
+      let a : EntryRange (frameEntryOf c i) = entry-range c bytes i in
+      let b : EntryRange (frameEntryOf c j) = entry-range c bytes j in
+      let t : every (λ i. not (claimsToo c j i)) j ≡ true =
+      not-false _ (not-true _ (listed s c j q (every-at (listable s c) n j h m) .1)) in
+      differ (claimsToo c j i)
+      (copy-claims c i (frameEntryOf c j .account) (frameEntryOf c j .page)
+      (record { usage = eqb-true _ _ p; account = omega (arith, a .page, b .page); page = omega (arith, a .page, b .page) }))
+      (not-true (claimsToo c j i) (every-at (λ i. not (claimsToo c j i)) j i t l))
+
+  -- where no two copies are of one page, none is claimed before
+  apart-before : Apart c n → (j : ℕ) → j < n → isCopy c j ≡ true → claimedBefore c j ≡ false
+  unfolding claimedBefore
+  apart-before h j m q =
+      rw (every-all (λ i. not (claimsToo c j i)) j
+      (λ i l.
+      rw (fails (claimsToo c j i)
+      (λ t.
+      let f = claims-copy c i (frameEntryOf c j .account) (frameEntryOf c j .page) t in
+      h i j l m (eq-eqb _ _ (f .usage)) q (omega (arith, f .account, f .page))))))
+
+  -- the code's test passes: every entry can be listed
+  pub listable-all : every (entryListable s c) n ≡ true → keyTwice (codesBelow c n) ≡ false → every (listable s c) n ≡ true
+  unfolding entryListable listable
+  listable-all h d =
+      every-all (listable s c) n
+      (λ j m.
+      by-test (isCopy c j)
+      (λ q.
+      let t : fit s c j ≡ true = rw q at (every-at (entryListable s c) n j h m) in
+      rw (q, copy-listable s c j, t, apart-before (once-apart c n few d) j m q))
+      (λ q. rw q))
+
+  -- where every entry can be listed, the code's test of each passes
+  listable-entries : every (listable s c) n ≡ true → every (entryListable s c) n ≡ true
+  unfolding entryListable
+  listable-entries h =
+      every-all (entryListable s c) n
+      (λ j m.
+      by-test (isCopy c j) (λ q. rw (q, listed s c j q (every-at (listable s c) n j h m) .0)) (λ q. rw q))
+
+  -- the code's test of the entries fails: not every entry can be listed
+  pub unlistable-entry : every (entryListable s c) n ≡ false → every (listable s c) n ≡ false
+  unlistable-entry h = fails (every (listable s c) n) (λ t. differ _ (listable-entries t) h)
+
+  -- a page is claimed twice: not every entry can be listed
+  pub unlistable-twice : keyTwice (codesBelow c n) ≡ true → every (listable s c) n ≡ false
+  unlistable-twice h = fails (every (listable s c) n) (λ t. differ _ h (apart-once c n few (listable-apart t)))

@@ -1,0 +1,5 @@
+pub mod Keys
+pub mod List
+pub mod Copies
+pub mod Apply
+pub mod View

@@ -1,0 +1,114 @@
+-- A call and a return keep the invariant: a call writes one record more, and a return frees stack and heap frames and goes back to a
+-- record that is live. Assumes nothing.
+use Prim.Native.Nat.{ℕ, _+_, _≤_, _<_}
+use mathlib.Core.Path.{_≡_, refl}
+use mathlib.Core.List.{List}
+use native.Mathlib.Decide.{decLt}
+use native.Mathlib.Omega.{arith}
+use lib.ListN.{length}
+use Rattle.choice.proofs.Tests.{by-test}
+use Rattle.refusal.specs.declared.Check.the-variants.{Pass}
+use Rattle.snapshot.specs.Header.{accounts}
+use Rattle.snapshot.specs.declared.accounts.Account.{Account}
+use Rattle.control.specs.Control.{frames, invocations, depth}
+use Rattle.control.proofs.Facts.{CurrentFacts, current-facts}
+use Rattle.frames.specs.Table.{frameEntryOf}
+use Rattle.frames.proofs.Entries.{EntryRange, zero-range}
+use Rattle.regions.proofs.Pages.{claims-ext}
+use Rattle.invoke.specs.Invoke.{callCheck, called, callControl, returnCheck, leaves, returned, returnControl}
+use Rattle.invoke.proofs.Accepted.{CallFacts, call-facts, ReturnFacts, return-facts}
+use Rattle.invoke.proofs.Depth.{called-frames, called-invocations, called-valid, called-entry, called-invocation, called-new, returned-frames, returned-invocations, returned-valid, returned-entry, returned-copy, returned-invocation}
+use Rattle.history.specs.Calls.{Buffers, call, return, stepOf, accepted}
+use Rattle.history.specs.Replay.{Replay, replayCall}
+use Rattle.history.proofs.Good.{copyOf, LiveRecord, Good}
+use Rattle.history.proofs.Passed.{by-check, program-known, program-fits}
+use Rattle.history.proofs.Others.{GoodAfter, keep-other, record-same, records-valid, replay-stays}
+
+module _ {s : List ℕ} {b : Buffers} {r : Replay} (g : Good s b r) where
+  -- the control block
+  abbrev c : List ℕ
+  c = b .control
+
+  -- ---- a call
+
+  module _ (a : Account) (registers : List ℕ) (e : callCheck s c (b .pool) a (length registers) ≡ Pass) where
+    -- what the check has shown
+    call-shows : CallFacts s c (b .pool) a (length registers)
+    call-shows = call-facts s c (b .pool) a (length registers) e
+
+    -- the records that were live are as they were, and the new one has the program and the caller's sizes
+    called-record : (k : ℕ) → 1 ≤ k → k ≤ invocations (called c a registers) → LiveRecord s (called c a registers) k
+    called-record k l m =
+        let f = call-shows in
+        let w = f .buffers .control in
+        let n = called-invocations c a registers w (f .below) (f .registers) in
+        elim (decLt (invocations c) k) [
+          | yes q ↦
+              let i : k ≡ invocations c + 1 = omega arith in
+              let u : a .0 < 65536 = program-fits s a (f .program) (f .buffers .snapshot) in
+              let v = called-new c a registers w (f .below) (f .registers) (accounts s) (f .buffers .current) u in
+              let d : CurrentFacts c (accounts s) = current-facts c (accounts s) (f .buffers .current) in
+              rw i (record { program = rw v (program-known s a (f .program)); stack = rw v (d .few-stack); heap = rw v (d .few-heap) })
+          | no q ↦ record-same (called-invocation c a registers w (f .below) (f .registers) k (omega arith)) (g .records k l (omega arith))
+        ]
+
+    -- the invariant holds after it
+    called-good : Good s (record { control = called c a registers; pool = b .pool }) r
+    called-good =
+        let f = call-shows in
+        let w = f .buffers .control in
+        let n = called-frames c a registers w (f .below) (f .registers) in
+        let x = called-entry c a registers w (f .below) (f .registers) in
+        let v = called-valid c a registers w (f .below) (f .registers) in
+        keep-other g (record { control = called c a registers; pool = b .pool }) (λ i l. rw (x i) (g .ranged i l))
+        (λ d q i l. claims-ext c (called c a registers) (copyOf d q) i (x i))
+        (λ d q i l h k m. refl)
+        (records-valid s (called c a registers) (b .pool) (f .buffers .snapshot) v (rw n (f .buffers .pool)) called-record)
+        called-record n
+
+  -- a call keeps the invariant
+  pub keep-call : (a : Account) (registers : List ℕ) → GoodAfter s b r (call a registers)
+  unfolding stepOf callControl replayCall
+  keep-call a registers =
+      replay-stays (call a registers) refl (accepted s b (call a registers))
+      (by-check (callCheck s c (b .pool) a (length registers)) (λ e. rw e (called-good a registers e)) (λ n e. rw e g))
+
+  -- ---- a return
+
+  module _ (size : ℕ) (e : returnCheck s c (b .pool) size ≡ Pass) where
+    -- what the check has shown
+    return-shows : ReturnFacts s c (b .pool) size
+    return-shows = return-facts s c (b .pool) size e
+
+    -- the records that stay live are as they were
+    returned-record : (k : ℕ) → 1 ≤ k → k ≤ invocations (returned c) → LiveRecord s (returned c) k
+    returned-record k l m =
+        let f = return-shows in
+        let w = f .buffers .control in
+        let n = returned-invocations c w (f .above) in
+        record-same (returned-invocation c w (f .above) k (omega arith)) (g .records k l (omega arith))
+
+    -- an entry is as it was, or zeros
+    returned-range : (i : ℕ) → i < frames c → EntryRange (frameEntryOf (returned c) i)
+    returned-range i l =
+        rw (returned-entry c (return-shows .buffers .control) (return-shows .above) i l)
+        (by-test (leaves (depth c) (frameEntryOf c i)) (λ t. rw t zero-range) (λ t. rw t (g .ranged i l)))
+
+    -- the invariant holds after it
+    returned-good : Good s (record { control = returned c; pool = b .pool }) r
+    returned-good =
+        let f = return-shows in
+        let w = f .buffers .control in
+        let n = returned-frames c w (f .above) in
+        keep-other g (record { control = returned c; pool = b .pool }) returned-range
+        (λ d q i l. returned-copy c w (f .above) (record { 0 = d }) (record { 0 = q }) i)
+        (λ d q i l h k m. refl)
+        (records-valid s (returned c) (b .pool) (f .buffers .snapshot) (returned-valid c w (f .above)) (rw n (f .buffers .pool)) returned-record)
+        returned-record n
+
+  -- a return keeps the invariant
+  pub keep-return : (registers : List ℕ) → GoodAfter s b r (return registers)
+  unfolding stepOf returnControl replayCall
+  keep-return registers =
+      replay-stays (return registers) refl (accepted s b (return registers))
+      (by-check (returnCheck s c (b .pool) (length registers)) (λ e. rw e (returned-good (length registers) e)) (λ n e. rw e g))

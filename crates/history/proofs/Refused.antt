@@ -1,0 +1,164 @@
+-- Document 01, "Numbers given back": a refused call changes nothing, gives the value 0, and leaves a lent buffer as it was given. One
+-- statement over all calls. Assumes nothing.
+use Prim.Native.Nat.{ℕ}
+use mathlib.Core.Path.{_≡_, refl}
+use mathlib.Core.Bool.{false}
+use mathlib.Core.List.{List, []}
+use lib.ListN.{length}
+use lib.Dec.{eqb, ltb}
+use Rattle.words.specs.Words.{wordBytes}
+use Rattle.words.proofs.Word.{length-wordBytes}
+use Rattle.choice.proofs.Tests.{by-test, differ}
+use Rattle.refusal.specs.Numbers.{done}
+use Rattle.refusal.specs.Checks.{checkNumber, orKeep}
+use Rattle.refusal.specs.declared.Check.{Check}
+use Rattle.refusal.specs.declared.Check.the-variants.{Pass, Stop}
+use Rattle.control.specs.declared.shadow.Region.{Region}
+use Rattle.segments.specs.Kinds.{kindLoad, kindStore, kindFetch, kindLoadSpan, kindStoreSpan}
+use Rattle.translate.specs.Place.{numberOfAnswer}
+use Rattle.translate.specs.Translate.{translateOf}
+use Rattle.translate.specs.declared.place.Translation.{Translation}
+use Rattle.translate.specs.declared.place.Translation.the-variants.{Allowed, Refused}
+use Rattle.access.specs.Loads.{answered, loadOf, fetchOf, filled, loadSpanNumber, loadSpanOut}
+use Rattle.access.specs.Stores.{controlAfter, poolAfter, storeNumber, storeControl, storePool}
+use Rattle.invoke.specs.Invoke.{beginCheck, beginNumber, beginControl, callCheck, callNumber, callControl, returnCheck, returnNumber, returnControl, returnOut}
+use Rattle.regions.specs.Resize.{Resized, sizeOf, growCheck, growTo, shrinkCheck, shrinkControl, resizeTo, resizeCheck, regionOf, orRefused, resizeOf}
+use Rattle.changes.specs.List.{listCheck, changeListNumber, changeListOut}
+use Rattle.changes.specs.View.{viewOf, viewNumber, viewBytes}
+use Rattle.changes.specs.declared.view.View.{View}
+use Rattle.changes.specs.declared.view.View.the-variants as view
+use Rattle.history.specs.Calls.{Call, begin, translation, load, store, fetch, load-span, store-span, call, return, resize, change-list, page-view, Buffers, Step, stepOf, accepted}
+use Rattle.history.specs.Replay.{Replay}
+use Rattle.history.proofs.Good.{Good}
+use Rattle.history.proofs.Others.{GoodAfter}
+
+-- what is left of the lent buffer of a call that is refused: its bytes as they were given; there is none, or an empty view, otherwise
+unfoldable pub given : Call → List ℕ
+given (begin a) = []
+given (translation kind a n) = []
+given (load a n) = []
+given (store a n v) = []
+given (fetch a n) = []
+given (load-span a out) = out
+given (store-span a bytes) = []
+given (call a registers) = []
+given (return registers) = registers
+given (resize region n) = []
+given (change-list out) = out
+given (page-view a q) = []
+
+-- a step that changes nothing
+pub record Unchanged (b : Buffers) (k : Call) (x : Step) : Type 0 where
+  pub after : x .after ≡ b
+  pub value : x .answer .value ≡ 0
+  pub bytes : x .answer .bytes ≡ given k
+
+-- ---- by the parts of a call
+
+-- a check that stops keeps a buffer
+stop-keeps : (x : Check) (old new : List ℕ) → eqb (checkNumber x) done ≡ false → orKeep x old new ≡ old
+stop-keeps Pass old new e = absurd (differ _ refl e)
+stop-keeps (Stop r) old new e = refl
+
+module _ (s c p : List ℕ) where
+  -- a refused translation gives a load no value
+  no-value : (n : ℕ) (t : Translation) → eqb (answered s c p n t .number) done ≡ false → answered s c p n t .value ≡ 0
+  no-value n (Allowed q) e = absurd (differ _ refl e)
+  no-value n (Refused r) e = refl
+
+  -- and leaves the buffer of a span load
+  not-filled : (out : List ℕ) (t : Translation) → eqb (numberOfAnswer t) done ≡ false → filled s c p out t ≡ out
+  not-filled out (Allowed q) e = absurd (differ _ refl e)
+  not-filled out (Refused r) e = refl
+
+  -- and leaves the control block of a store
+  control-left : (t : Translation) → eqb (numberOfAnswer t) done ≡ false → controlAfter c t ≡ c
+  control-left (Allowed q) e = absurd (differ _ refl e)
+  control-left (Refused r) e = refl
+
+  -- and its pool
+  pool-left : (bytes : List ℕ) (t : Translation) → eqb (numberOfAnswer t) done ≡ false → poolAfter s p bytes t ≡ p
+  pool-left bytes (Allowed q) e = absurd (differ _ refl e)
+  pool-left bytes (Refused r) e = refl
+
+  -- a refused view is empty
+  no-view : (v : View) → eqb (viewNumber v) done ≡ false → viewBytes s p v ≡ []
+  no-view (view.InSnapshot at n) e = absurd (differ _ refl e)
+  no-view (view.InPool at n) e = absurd (differ _ refl e)
+  no-view (view.Refused r) e = refl
+
+-- both buffers as they were
+record Left (c p : List ℕ) (o : Resized) : Type 0 where
+  control : o .control ≡ c
+  pool : o .pool ≡ p
+
+module _ (c p : List ℕ) where
+  -- a resize refused by its size
+  resize-to-left : (r : Region) (n : ℕ) → eqb (resizeTo c p r n .number) done ≡ false → Left c p (resizeTo c p r n)
+  unfolding resizeTo growTo shrinkControl
+  resize-to-left r n =
+      by-test (ltb (sizeOf c r) n)
+      (λ t. rw t (λ e. record { control = stop-keeps (growCheck c r n) c _ e; pool = stop-keeps (growCheck c r n) p _ e }))
+      (λ t.
+      rw t
+      (by-test (ltb n (sizeOf c r)) (λ u. rw u (λ e. record { control = stop-keeps (shrinkCheck c r n) c _ e; pool = refl }))
+      (λ u. rw u (λ e. record { control = refl; pool = refl }))))
+
+  -- or by the tests before it
+  resize-left : (x : Check) (o : Resized) → (eqb (o .number) done ≡ false → Left c p o) → eqb (orRefused x c p o .number) done ≡ false
+      → Left c p (orRefused x c p o)
+  resize-left Pass o f e = f e
+  resize-left (Stop r) o f e = record { control = refl; pool = refl }
+
+-- ---- the statement
+
+module _ (s : List ℕ) (b : Buffers) where
+  -- the control block
+  abbrev c : List ℕ
+  c = b .control
+
+  -- the pool
+  abbrev p : List ℕ
+  p = b .pool
+
+  -- buffers are equal where both are
+  same-buffers : {c′ p′ : List ℕ} → c′ ≡ c → p′ ≡ p → record { control = c′; pool = p′ } ≡ b
+  same-buffers e f = rw (e, f)
+
+  -- a refused store of either kind
+  store-left : (kind a : ℕ) (bytes : List ℕ) → eqb (storeNumber s c p kind a (length bytes)) done ≡ false
+      → record { control = storeControl s c p kind a (length bytes); pool = storePool s c p kind a bytes } ≡ b
+  unfolding storeNumber storeControl storePool
+  store-left kind a bytes e =
+      let t : Translation = translateOf s c p kind a (length bytes) in
+      same-buffers (control-left s c p t e) (pool-left s c p bytes t e)
+
+  -- "Every number but 0 changes nothing": a refused call of any kind
+  pub refused-keeps : (k : Call) → accepted s b k ≡ false → Unchanged b k (stepOf s b k)
+  unfolding stepOf given beginNumber beginControl loadOf fetchOf loadSpanNumber loadSpanOut callNumber callControl returnNumber returnControl returnOut resizeOf changeListNumber changeListOut
+  refused-keeps (begin a) e =
+      record { after = same-buffers (stop-keeps (beginCheck s (length c) (length p) a) c _ e) refl; value = refl; bytes = refl }
+  refused-keeps (translation kind a n) e = record { after = refl; value = refl; bytes = refl }
+  refused-keeps (load a n) e = record { after = refl; value = no-value s c p n (translateOf s c p kindLoad a n) e; bytes = refl }
+  refused-keeps (store a n v) e =
+      let l : length (wordBytes n v) ≡ n = length-wordBytes n v in
+      record { after = rw l at (store-left kindStore a (wordBytes n v) (rw l e)); value = refl; bytes = refl }
+  refused-keeps (fetch a n) e = record { after = refl; value = no-value s c p n (translateOf s c p kindFetch a n) e; bytes = refl }
+  refused-keeps (load-span a out) e =
+      record { after = refl; value = refl; bytes = not-filled s c p out (translateOf s c p kindLoadSpan a (length out)) e }
+  refused-keeps (store-span a bytes) e = record { after = store-left kindStoreSpan a bytes e; value = refl; bytes = refl }
+  refused-keeps (call a registers) e =
+      record { after = same-buffers (stop-keeps (callCheck s c p a (length registers)) c _ e) refl; value = refl; bytes = refl }
+  refused-keeps (return registers) e =
+      let x : Check = returnCheck s c p (length registers) in
+      record { after = same-buffers (stop-keeps x c _ e) refl; value = refl; bytes = stop-keeps x registers _ e }
+  refused-keeps (resize region n) e =
+      let l = resize-left c p (resizeCheck s c p region n) (resizeTo c p (regionOf region) n) (resize-to-left c p (regionOf region) n) e in
+      record { after = same-buffers (l .control) (l .pool); value = refl; bytes = refl }
+  refused-keeps (change-list out) e =
+      record { after = refl; value = refl; bytes = stop-keeps (listCheck s c p (length out)) out _ e }
+  refused-keeps (page-view a q) e = record { after = refl; value = refl; bytes = no-view s c p (viewOf s c p a q) e }
+
+-- so it keeps the invariant
+pub keep-refused : {s : List ℕ} {b : Buffers} {r : Replay} → Good s b r → (k : Call) → accepted s b k ≡ false → GoodAfter s b r k
+keep-refused {s} {b} g k e = rw (e, refused-keeps s b k e .after) g

@@ -1,0 +1,367 @@
+-- A store keeps the invariant. In account data the page gets its frame, if it has none, and then the bytes go in; elsewhere they go into
+-- a frame that is no copy. Assumes nothing.
+use Prim.Native.Nat.{ℕ, _+_, _*_, _/_, _%_, _≤_, _<_}
+use mathlib.Core.Path.{_≡_, refl, sym, ap, _∙_, fun-ext}
+use mathlib.Core.Logic.{_≢_}
+use mathlib.Core.Bool.{Bool, true, false}
+use mathlib.Core.List.{List}
+use native.Mathlib.Nat.{div-add-mod}
+use native.Mathlib.Decide.{ℕ-discrete}
+use native.Mathlib.Omega.{arith}
+use lib.ListN.{length, getD}
+use lib.Dec.{eqb}
+use borrow.Author.Tests.{eq-eqb, eqb-true, eqb-false}
+use Rattle.words.specs.Words.{splice}
+use Rattle.words.proofs.Splice.{length-splice}
+use Rattle.choice.specs.Choice.{pick, either}
+use Rattle.choice.proofs.Tests.{by-test, differ}
+use Rattle.address.specs.Address.{typeOf, indexOf, offsetOf}
+use Rattle.snapshot.specs.Accounts.{entryOf, dataLength, original}
+use Rattle.snapshot.proofs.Facts.{snapshot-facts, data-short, length-original}
+use Rattle.control.specs.Control.{liveLimit, frames, invocations, buffersValid}
+use Rattle.control.specs.declared.shadow.Region.{Region}
+use Rattle.control.specs.declared.shadow.Region.the-variants.{Stack, Heap}
+use Rattle.control.proofs.Facts.{BuffersFacts, control-facts, buffers-facts}
+use Rattle.frames.specs.Table.{entryEnd, frameEntryOf, putFrameEntry, usageCopy, usageOf, holds, claims, isFree, frameOf}
+use Rattle.frames.specs.declared.table.FrameEntry.{FrameEntry}
+use Rattle.frames.specs.declared.finding.Claim.{Claim}
+use Rattle.frames.specs.declared.finding.Found.the-variants.{Nothing}
+use Rattle.frames.proofs.Entries.{EntryRange, entry-same, entry-other}
+use Rattle.frames.proofs.Untouched.{frames-kept, invocations-kept, invocation-kept, buffers-valid-kept}
+use Rattle.frames.proofs.Claims.{holds-copy, copy-holds, claims-copy, claims-page, claims-one, claims-same, claims-other, free-claims, frame-found, frame-none, frame-taken, frame-kept}
+use Rattle.frames.proofs.Free.{free-found}
+use Rattle.segments.specs.Kinds.{isStore}
+use Rattle.translate.specs.Translate.{translateOf}
+use Rattle.translate.specs.declared.place.Place.{Place}
+use Rattle.translate.specs.declared.place.Translation.the-variants.{Allowed}
+use Rattle.translate.proofs.Accepted.{DataAccess, data-accepted, region-accepted}
+use Rattle.translate.proofs.Stores.{StorePlace, into-copy, into-new, into-region, store-place}
+use Rattle.access.specs.Pages.{copyEntry, originalPage}
+use Rattle.access.specs.Stores.{placeInPool, preparedControl, preparedPool}
+use Rattle.access.proofs.PageBytes.{elsewhere, alike, length-original-page}
+use Rattle.access.proofs.Copies.{copied-byte}
+use Rattle.changes.specs.Keys.{keyOf, keyLimit, keyClaim, isCopied}
+use Rattle.history.specs.Calls.{Buffers}
+use Rattle.history.specs.Replay.{Replay, stored}
+use Rattle.history.proofs.Good.{copyOf, LiveRecord, LivePage, Good}
+use Rattle.history.proofs.Pages.{key-claim, pool-length, touched-found, claim-touched}
+
+-- a page is the one that is named, or is not
+page-cases : {A : Type 0} (a p d q : ℕ) → (d ≡ a → q ≡ p → A) → ((d ≡ a → q ≢ p) → A) → A
+page-cases a p d q f h =
+    elim (ℕ-discrete d a) [
+      | yes x ↦ elim (ℕ-discrete q p) [ yes y ↦ f x y | no y ↦ h (λ _. y) ]
+      | no x ↦ h (λ y. absurd (x y))
+    ]
+
+-- buffers stay fit with a pool of the same length
+buffers-spliced : (s c p : List ℕ) (at : ℕ) (bs : List ℕ) → buffersValid s c p ≡ true → buffersValid s c (splice p at bs) ≡ true
+unfolding buffersValid
+buffers-spliced s c p at bs h = rw (length-splice p at bs) h
+
+-- ---- bytes stored into a frame that has the page
+
+-- the replay with bytes put into page p of account a, from its byte w on
+abbrev pub put : Replay → ℕ → ℕ → ℕ → List ℕ → Replay
+put r a p w bs =
+    record { plain = λ i. pick (eqb i a) (splice (r .plain i) (4096 * p + w) bs) (r .plain i); touched = r .touched }
+
+module _ (r : Replay) (a p w : ℕ) (bs : List ℕ) (d : ℕ) where
+  -- each copy keeps its length
+  put-length : length (put r a p w bs .plain d) ≡ length (r .plain d)
+  put-length = by-test (eqb d a) (λ e. rw e (length-splice (r .plain d) (4096 * p + w) bs)) (λ e. rw e)
+
+  -- another page keeps its bytes
+  put-other : w + length bs ≤ 4096 → (q k : ℕ) → (d ≡ a → q ≢ p) → k < 4096
+      → getD (put r a p w bs .plain d) (4096 * q + k) 0 ≡ getD (r .plain d) (4096 * q + k) 0
+  put-other h q k n l =
+      by-test (eqb d a) (λ e. rw e (elsewhere (r .plain d) p w bs h q k (n (eqb-true d a e)) l)) (λ e. rw e)
+
+module _ {s : List ℕ} {b : Buffers} {r : Replay} (g : Good s b r) (a p f w : ℕ) (bs : List ℕ)
+    (low : f < frames (b .control)) (has : claims (b .control) (copyOf a p) f ≡ true) (in-page : w + length bs ≤ 4096)
+    (present : 4096 * p + w + length bs ≤ dataLength (entryOf s (record { 0 = a }))) where
+  -- each copy is as its plain copy: the page stored to by the same bytes, another as before
+  held-stored : (d q i : ℕ) → i < frames (b .control) → claims (b .control) (copyOf d q) i ≡ true → (k : ℕ) → k < 4096
+      → getD (splice (b .pool) (4096 * f + w) bs) (4096 * i + k) 0 ≡ getD (put r a p w bs .plain d) (4096 * q + k) 0
+  held-stored d q i l c k n =
+      page-cases a p d q
+      (λ x y.
+      let z : i ≡ f = g .once a p i f l low (rw (x, y) at c) has in
+      rw (x, y, z, eq-eqb a a refl)
+      (alike (b .pool) (r .plain a) (4096 * f) (4096 * p) w bs (omega (arith, pool-length g))
+      (omega (arith, g .sized a, length-original s (record { 0 = a }))) k (g .held a p f low has k n)))
+      (λ m.
+      let z : i ≢ f = λ y. let u = claims-one (b .control) f _ _ _ _ (rw y at c) has in m (u .0) (u .1) in
+      elsewhere (b .pool) f w bs in-page i k z n ∙ g .held d q i l c k n ∙ sym (put-other r a p w bs d in-page q k m n))
+
+  -- a page without a frame is not the one stored to
+  kept-stored : (d q : ℕ) → d < 65536 → q < 65536 → r .touched (keyOf d q) ≡ false → (k : ℕ) → k < 4096
+      → getD (put r a p w bs .plain d) (4096 * q + k) 0 ≡ getD (original s (record { 0 = d })) (4096 * q + k) 0
+  kept-stored d q hd hq t k n =
+      page-cases a p d q (λ x y. absurd (differ _ (claim-touched g a p f low has) (rw (x, y) at t)))
+      (λ m. put-other r a p w bs d in-page q k m n ∙ g .kept d q hd hq t k n)
+
+  -- they keep the invariant, with the plain copy of the account stored to as well
+  pub keep-stored : Good s (record { control = b .control; pool = splice (b .pool) (4096 * f + w) bs }) (put r a p w bs)
+  keep-stored =
+      record {
+        buffers = buffers-spliced s (b .control) (b .pool) (4096 * f + w) bs (g .buffers);
+        records = g .records;
+        ranged = g .ranged;
+        sized = λ d. put-length r a p w bs d ∙ g .sized d;
+        claimed = g .claimed;
+        once = g .once;
+        live = g .live;
+        held = held-stored;
+        kept = kept-stored;
+      }
+
+-- ---- a page that gets its frame
+
+-- the replay with page p of account a in the set
+abbrev pub marked : Replay → ℕ → ℕ → Replay
+marked r a p = record { plain = r .plain; touched = λ k. either (eqb k (keyOf a p)) (r .touched k) }
+
+-- the copy of page p of account a, as an entry
+abbrev entryFor : ℕ → ℕ → FrameEntry
+entryFor a p = copyEntry (record { 0 = a }) (record { 0 = p })
+
+-- its bytes
+abbrev pageFor : List ℕ → ℕ → ℕ → List ℕ
+pageFor s a p = originalPage s (record { 0 = a }) (record { 0 = p })
+
+-- the buffers with frame f taken for page p of account a
+abbrev pub copied : List ℕ → Buffers → ℕ → ℕ → ℕ → Buffers
+copied s b f a p =
+    record { control = putFrameEntry (b .control) f (entryFor a p); pool = splice (b .pool) (4096 * f) (pageFor s a p) }
+
+module _ {s : List ℕ} {b : Buffers} {r : Replay} (g : Good s b r) (a p f : ℕ) (low : f < frames (b .control))
+    (free : isFree (b .control) f ≡ true) (none : frameOf (b .control) (copyOf a p) ≡ Nothing) (page : LivePage s a p) where
+  -- the control block with the copy's entry
+  abbrev c′ : List ℕ
+  c′ = copied s b f a p .control
+
+  -- account and page fit an entry, and the entry the table
+  valid : BuffersFacts s (b .control) (b .pool)
+  valid = buffers-facts s (b .control) (b .pool) (g .buffers)
+
+  small-a : a < 65536
+  small-a = omega (arith, page .known, snapshot-facts s (valid .snapshot) .few-accounts)
+
+  small-p : p < 65536
+  small-p = omega (arith, page .present, data-short s (record { 0 = a }) (page .entry))
+
+  range : EntryRange (entryFor a p)
+  range = record { usage = omega arith; tag = omega arith; account = small-a; page = small-p; zero = omega arith }
+
+  slot : entryEnd f ≤ length (b .control)
+  slot = omega (arith, control-facts (b .control) (valid .control) .size)
+
+  few : invocations (b .control) ≤ liveLimit
+  few = control-facts (b .control) (valid .control) .few-live
+
+  same-frames : frames c′ ≡ frames (b .control)
+  same-frames = frames-kept (b .control) f (entryFor a p)
+
+  -- the entry holds the page
+  holds-page : holds (copyOf a p) (entryFor a p) ≡ true
+  holds-page = copy-holds _ _ (entryFor a p) (record { usage = refl; account = refl; page = refl })
+
+  -- and claims what it holds
+  entry-claims : (x : Claim) → claims c′ x f ≡ holds x (entryFor a p)
+  entry-claims = claims-same (b .control) f (entryFor a p) range slot
+
+  -- the frame's new entry claims the page
+  pub new-claim : claims (copied s b f a p .control) (copyOf a p) f ≡ true
+  new-claim = entry-claims (copyOf a p) ∙ holds-page
+
+  -- an entry that claims a page now is the new one, or claimed it before
+  claim-cases : {A : Type 0} (d q i : ℕ) → claims c′ (copyOf d q) i ≡ true → (i ≡ f → d ≡ a → q ≡ p → A)
+      → (i ≢ f → claims (b .control) (copyOf d q) i ≡ true → A) → A
+  claim-cases d q i c h o =
+      elim (ℕ-discrete i f) [
+        | yes e ↦
+            let u = holds-copy _ _ (entryFor a p) (sym (entry-claims (copyOf d q)) ∙ rw e at c) in
+            h e (sym (u .account)) (sym (u .page))
+        | no e ↦ o e (sym (claims-other (b .control) f (entryFor a p) (copyOf d q) i e) ∙ c)
+      ]
+
+  -- no entry claimed the page before
+  missing : (j : ℕ) → j < frames c′ → claims (b .control) (copyOf a p) j ≡ true → ⊥
+  missing j l c = differ _ c (frame-none (b .control) (copyOf a p) none j (rw same-frames at l))
+
+  -- the shadow records stay
+  records-copied : (k : ℕ) → 1 ≤ k → k ≤ invocations c′ → LiveRecord s c′ k
+  records-copied k l h =
+      let m : k ≤ invocations (b .control) = rw (invocations-kept (b .control) f (entryFor a p)) at h in
+      let e = invocation-kept (b .control) f (entryFor a p) k (omega (arith, few)) in
+      let u = g .records k l m in
+      record { program = rw e (u .program); stack = rw e (u .stack); heap = rw e (u .heap) }
+
+  -- every entry fits
+  ranged-copied : (i : ℕ) → i < frames c′ → EntryRange (frameEntryOf c′ i)
+  ranged-copied i l =
+      elim (ℕ-discrete i f) [
+        | yes e ↦ rw (e, entry-same (b .control) f (entryFor a p) range slot) range
+        | no e ↦ rw (entry-other (b .control) f (entryFor a p) i e) (g .ranged i (rw same-frames at l))
+      ]
+
+  -- the page has a frame now, and every other has one where it had
+  claimed-copied : (k : ℕ) → k < keyLimit → marked r a p .touched k ≡ isCopied c′ k
+  unfolding isCopied
+  claimed-copied k h =
+      by-test (eqb k (keyOf a p))
+      (λ e.
+      let x : keyClaim k ≡ copyOf a p = ap keyClaim (eqb-true k (keyOf a p) e) ∙ key-claim a p small-a small-p in
+      rw (e, x, frame-taken (b .control) f (entryFor a p) range slot (copyOf a p) none low holds-page))
+      (λ e.
+      let o : holds (keyClaim k) (entryFor a p) ≡ false =
+      by-test (holds (keyClaim k) (entryFor a p))
+      (λ t.
+      let u = holds-copy _ _ (entryFor a p) t in
+      absurd (eqb-false k (keyOf a p) e (omega (arith, u .account, u .page))))
+      (λ t. t) in
+      rw (e, frame-kept (b .control) f (entryFor a p) range slot (keyClaim k) (free-claims (b .control) f free (keyClaim k)) o)
+      (g .claimed k h))
+
+  -- no page is claimed twice
+  once-copied : (d q i j : ℕ) → i < frames c′ → j < frames c′ → claims c′ (copyOf d q) i ≡ true → claims c′ (copyOf d q) j ≡ true
+      → i ≡ j
+  once-copied d q i j l n c o =
+      claim-cases d q i c
+      (λ e x y. claim-cases d q j o (λ h _ _. e ∙ sym h) (λ h m. absurd (missing j n (rw (x, y) at m))))
+      (λ e m.
+      claim-cases d q j o (λ h x y. absurd (missing i l (rw (x, y) at m)))
+      (λ h u. g .once d q i j (rw same-frames at l) (rw same-frames at n) m u))
+
+  -- every claimed page has live bytes
+  live-copied : (d q i : ℕ) → i < frames c′ → claims c′ (copyOf d q) i ≡ true → LivePage s d q
+  live-copied d q i l c = claim-cases d q i c (λ e x y. rw (x, y) page) (λ e m. g .live d q i (rw same-frames at l) m)
+
+  -- the frame has the original bytes, which the plain copy has still; every other frame is as before
+  held-copied : (d q i : ℕ) → i < frames c′ → claims c′ (copyOf d q) i ≡ true → (k : ℕ) → k < 4096
+      → getD (copied s b f a p .pool) (4096 * i + k) 0 ≡ getD (r .plain d) (4096 * q + k) 0
+  held-copied d q i l c k n =
+      claim-cases d q i c
+      (λ e x y.
+      rw (e, x, y)
+      (copied-byte s (b .pool) (record { 0 = f }) (record { 0 = a }) (record { 0 = p }) (omega (arith, pool-length g)) k n
+      ∙ sym (g .kept a p small-a small-p (touched-found g a p small-a small-p ∙ rw none) k n)))
+      (λ e m.
+      let z : 4096 * f + 0 ≡ 4096 * f = omega arith in
+      rw z at (elsewhere (b .pool) f 0 (pageFor s a p) (simp length-original-page (omega arith)) i k e n)
+      ∙ g .held d q i (rw same-frames at l) m k n)
+
+  -- a page not in the set now was not before
+  kept-copied : (d q : ℕ) → d < 65536 → q < 65536 → marked r a p .touched (keyOf d q) ≡ false → (k : ℕ) → k < 4096
+      → getD (r .plain d) (4096 * q + k) 0 ≡ getD (original s (record { 0 = d })) (4096 * q + k) 0
+  kept-copied d q hd hq t k n =
+      by-test (eqb (keyOf d q) (keyOf a p)) (λ e. absurd (differ true refl (rw e at t))) (λ e. g .kept d q hd hq (rw e at t) k n)
+
+  -- a free frame taken for a page that has none keeps the invariant, with the page in the set
+  pub keep-copied : Good s (copied s b f a p) (marked r a p)
+  keep-copied =
+      record {
+        buffers =
+            buffers-spliced s c′ (b .pool) (4096 * f) _ (buffers-valid-kept (b .control) f (entryFor a p) s (b .pool) ∙ g .buffers);
+        records = records-copied;
+        ranged = ranged-copied;
+        sized = g .sized;
+        claimed = claimed-copied;
+        once = once-copied;
+        live = live-copied;
+        held = held-copied;
+        kept = kept-copied;
+      }
+
+-- ---- a store
+
+-- a page in the set stays there
+marked-same : (r : Replay) (a p : ℕ) → r .touched (keyOf a p) ≡ true → marked r a p ≡ r
+marked-same r a p h =
+    ap (λ (t : ℕ → Bool). let x : Replay = record { plain = r .plain; touched = t } in x)
+    (fun-ext (λ k. by-test (eqb k (keyOf a p)) (λ e. rw (e, eqb-true k (keyOf a p) e) (sym h)) (λ e. rw e)))
+
+-- what the replay does: the page joins the set, and the bytes go in
+stored-is : (r : Replay) (a : ℕ) (bytes : List ℕ)
+    → put (marked r (indexOf a) (offsetOf a / 4096)) (indexOf a) (offsetOf a / 4096) (offsetOf a % 4096) bytes ≡ stored r a bytes
+unfolding stored
+stored-is r a bytes =
+    ap
+    (λ (o : ℕ).
+    let x : Replay =
+    record {
+      plain = λ i. pick (eqb i (indexOf a)) (splice (r .plain i) o bytes) (r .plain i);
+      touched = λ k. either (eqb k (keyOf (indexOf a) (offsetOf a / 4096))) (r .touched k);
+    } in
+    x)
+    (div-add-mod (offsetOf a) 4096)
+
+-- the buffers after a store
+abbrev pub afterStore : List ℕ → Buffers → Place → List ℕ → Buffers
+afterStore s b q bytes =
+    record { control = preparedControl (b .control) q; pool = splice (preparedPool s (b .pool) q) (placeInPool q) bytes }
+
+module _ {s : List ℕ} {b : Buffers} {r : Replay} (g : Good s b r) (kind a : ℕ) (bytes : List ℕ) where
+  -- account data: the page has a frame, or gets one
+  keep-data : {q : Place} → DataAccess s (b .control) (b .pool) kind a (length bytes) → StorePlace (b .control) kind a q
+      → Good s (afterStore s b q bytes) (stored r a bytes)
+  keep-data d (into-copy h x) =
+      let i = frame-found (b .control) _ (x .frame) (x .held) in
+      rw (x .place, ← stored-is r a bytes, marked-same r _ _ (claim-touched g _ _ (x .frame .0) (i .below) (i .passes)))
+      (keep-stored g (indexOf a) (offsetOf a / 4096) (x .frame .0) (offsetOf a % 4096) bytes (i .below) (i .passes) (d .within)
+      (omega (arith, d .present)))
+  keep-data d (into-new {f} x) =
+      let i = free-found (b .control) f (x .free) in
+      let none : frameOf (b .control) (copyOf (indexOf a) (offsetOf a / 4096)) ≡ Nothing = rw (x .account, x .page) at (x .none) in
+      let page : LivePage s (indexOf a) (offsetOf a / 4096) =
+      record { known = d .account; entry = d .entry; present = omega (arith, d .present, d .some) } in
+      rw (x .account, x .page, x .place, ← stored-is r a bytes)
+      (keep-stored (keep-copied g _ _ (f .0) (i .below) (i .passes) none page) (indexOf a) (offsetOf a / 4096) (f .0)
+      (offsetOf a % 4096) bytes
+      (rw (frames-kept (b .control) (f .0) (entryFor (indexOf a) (offsetOf a / 4096))) (i .below))
+      (new-claim g _ _ (f .0) (i .below) (i .passes) none page) (d .within) (omega (arith, d .present)))
+  keep-data d (into-region h m x) = absurd (m (d .type))
+
+  -- elsewhere: an entry has one use, so the frame is no copy
+  keep-region : {q : Place} → offsetOf a % 4096 + length bytes ≤ 4096 → typeOf a ≢ 3 → StorePlace (b .control) kind a q
+      → Good s (afterStore s b q bytes) r
+  keep-region l m (into-copy h x) = absurd (m h)
+  keep-region l m (into-new x) = absurd (m (x .type))
+  keep-region l m (into-region h _ x) =
+      let i = frame-found (b .control) _ (x .frame) (x .held) in
+      let u = claims-page (b .control) (x .frame .0) h _ (i .passes) in
+      rw (x .place)
+      (record {
+        buffers = buffers-spliced s (b .control) (b .pool) _ bytes (g .buffers);
+        records = g .records;
+        ranged = g .ranged;
+        sized = g .sized;
+        claimed = g .claimed;
+        once = g .once;
+        live = g .live;
+        held =
+            λ d q j low c k n.
+            elsewhere (b .pool) (x .frame .0) (offsetOf a % 4096) bytes l j k
+            (λ e. no-copy h (sym (u .usage) ∙ claims-copy (b .control) (x .frame .0) _ _ (rw e at c) .usage)) n
+            ∙ g .held d q j low c k n;
+        kept = g .kept;
+      })
+    where
+      no-copy : (h : Region) → usageOf h ≡ usageCopy → ⊥
+      no-copy Stack e = omega arith
+      no-copy Heap e = omega arith
+
+  -- a store that is accepted
+  module _ (n : ℕ) (size : length bytes ≡ n) (store : isStore kind ≡ true) {q : Place}
+      (e : translateOf s (b .control) (b .pool) kind a n ≡ Allowed q) where
+    place : StorePlace (b .control) kind a q
+    place = store-place s (b .control) (b .pool) kind a n store e
+
+    -- to account data keeps the invariant, with the replay's store
+    pub keep-store : typeOf a ≡ 3 → Good s (afterStore s b q bytes) (stored r a bytes)
+    keep-store h = keep-data (rw size (data-accepted s (b .control) (b .pool) kind a n e refl h .0)) place
+
+    -- elsewhere keeps it as it is
+    pub keep-region-store : typeOf a ≢ 3 → Good s (afterStore s b q bytes) r
+    keep-region-store h = keep-region (rw size (region-accepted s (b .control) (b .pool) kind a n e refl store h .within)) h place

@@ -1,0 +1,84 @@
+-- Document 01, "The replay": plain copies and touched pages. Assumes nothing.
+use Prim.Native.Nat.{ℕ, _*_, _/_}
+use mathlib.Core.Bool.{Bool, false}
+use mathlib.Core.List.{List, [], _∷_}
+use lib.Dec.{eqb}
+use Rattle.words.specs.Words.{wordBytes, bytesAt, splice}
+use Rattle.choice.specs.Choice.{pick, either}
+use Rattle.changes.specs.Keys.{picked}
+use Rattle.address.specs.Address.{typeOf, indexOf, offsetOf}
+use Rattle.snapshot.specs.Accounts.{original}
+use Rattle.control.specs.Control.{pageSize}
+use Rattle.access.specs.Pages.{live}
+use Rattle.changes.specs.Keys.{keyOf, keyAccount, keyPage, keyLimit}
+use Rattle.changes.specs.List.{listBytes, padded}
+use Rattle.history.specs.Calls.{Call, begin, translation, load, store, fetch, load-span, store-span, call, return, resize, change-list, page-view, Buffers, stepOf, accepted}
+
+-- "It keeps, for each account with a fit entry, a plain copy of its data, apart from any other account's, and a set of touched pages
+-- (account, offset/4,096)." A copy is kept for every number; those of other accounts concern no claim. The set is a test on keys.
+pub record Replay : Type 0 where
+  pub plain : ℕ → List ℕ
+  pub touched : ℕ → Bool
+
+-- "An accepted begin sets every plain copy to the ground's bytes and empties the set."
+abbrev pub started : List ℕ → Replay
+started s = record { plain = λ a. original s (record { 0 = a }); touched = λ k. false }
+
+-- "in type 3"
+abbrev pub inData : ℕ → Bool
+inData a = eqb (typeOf a) 3
+
+-- "writes its bytes to the plain copy that the index names, from the offset on; its page joins the set, even if no byte changes"
+unfoldable pub stored : Replay → ℕ → List ℕ → Replay
+stored r a bytes =
+    record {
+      plain = λ i. pick (eqb i (indexOf a)) (splice (r .plain i) (offsetOf a) bytes) (r .plain i);
+      touched = λ k. either (eqb k (keyOf (indexOf a) (offsetOf a / pageSize))) (r .touched k);
+    }
+
+-- an accepted call; "Every other call .. leaves all as it is."
+unfoldable pub replayCall : List ℕ → Replay → Call → Replay
+replayCall s r (begin a) = started s
+replayCall s r (translation kind a n) = r
+replayCall s r (load a n) = r
+replayCall s r (store a n v) = pick (inData a) (stored r a (wordBytes n v)) r
+replayCall s r (fetch a n) = r
+replayCall s r (load-span a out) = r
+replayCall s r (store-span a bytes) = pick (inData a) (stored r a bytes) r
+replayCall s r (call a registers) = r
+replayCall s r (return registers) = r
+replayCall s r (resize region n) = r
+replayCall s r (change-list out) = r
+replayCall s r (page-view a q) = r
+
+-- what the replay is fed of a call: "each call's other arguments except ledger and pool, and whether the call was accepted"
+pub record Fed : Type 0 where
+  pub asked : Call
+  pub ok : Bool
+
+-- one call fed; "and every refused one, leaves all as it is"
+abbrev pub replayStep : List ℕ → Replay → Fed → Replay
+replayStep s r f = pick (f .ok) (replayCall s r (f .asked)) r
+
+-- the replay of a list: "fed the ground, each call's other arguments .., and whether the call was accepted; nothing else"
+unfoldable pub replay : List ℕ → Replay → List Fed → Replay
+replay s r [] = r
+replay s r (f ∷ fs) = replay s (replayStep s r f) fs
+
+-- a list of calls as the replay is fed it
+unfoldable pub feed : List ℕ → Buffers → List Call → List Fed
+feed s b [] = []
+feed s b (k ∷ ks) = record { asked = k; ok = accepted s b k } ∷ feed s (stepOf s b k .after) ks
+
+-- the keys of the set, in ascending order
+unfoldable pub touchedKeys : Replay → List ℕ
+touchedKeys r = picked (r .touched) 0 keyLimit
+
+-- "for each the plain copy's live bytes, then zeros"
+unfoldable pub plainPage : List ℕ → Replay → ℕ → List ℕ
+plainPage s r k =
+    padded (live s (keyAccount k) (keyPage k)) (bytesAt pageSize (r .plain (keyAccount k .0)) (pageSize * keyPage k .0))
+
+-- "Its bytes are those laid out above: an entry for each page of the set and no other, and for each the plain copy's live bytes"
+unfoldable pub expectedList : List ℕ → Replay → List ℕ
+expectedList s r = listBytes s (plainPage s r) (touchedKeys r)

@@ -1,0 +1,12 @@
+pub mod Depths
+pub mod Moves
+pub mod Begun
+pub mod Copied
+pub mod Paired
+pub mod Counted
+pub mod Called
+pub mod Sized
+pub mod Growing
+pub mod Shrinking
+pub mod Resized
+pub mod After
