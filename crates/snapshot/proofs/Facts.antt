@@ -10,7 +10,7 @@ use Rattle.words.specs.Words.{zeros}
 use Rattle.words.proofs.Run.{length-bytesAt, getD-bytesAt, length-zeros, getD-zeros}
 use Rattle.choice.proofs.Tests.{both-true, by-test}
 use Rattle.snapshot.specs.Header.{headerSize, entrySize, contextSize, headerOf, accounts, contexts, transaction, countsValid, offsetsValid, totalValid, snapshotValid}
-use Rattle.snapshot.specs.Accounts.{known, entryAt, entryOf, exists, writable, dataLength, bodyValid, entryFits, entryValid, metadataSize, metadataAt, metadataOf, original}
+use Rattle.snapshot.specs.Accounts.{known, entryAt, entryOf, exists, writable, dataLength, bodyValid, validWithin, entryValid, metadataSize, metadataAt, metadataOf, original}
 use Rattle.snapshot.specs.declared.header.Header.{Header}
 use Rattle.snapshot.specs.declared.accounts.Account.{Account}
 
@@ -85,7 +85,7 @@ pub record EntryFacts (s : List ℕ) (a : Account) : Type 0 where
   pub within : entryOf s a .start + entryOf s a .length ≤ headerOf s .total
 
 pub entry-facts : (s : List ℕ) (a : Account) → entryValid s a ≡ true → exists (entryOf s a) ≡ true → EntryFacts s a
-unfolding entryValid entryFits bodyValid
+unfolding entryValid validWithin bodyValid
 entry-facts s a v x =
     let t₁ = both-true _ _ (rw x at v) in
     let t₂ = both-true _ _ (t₁ .1) in

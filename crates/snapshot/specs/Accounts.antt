@@ -48,12 +48,12 @@ bodyValid dataAt total e =
     (both (leb (e .length) (2 ^ 24)) (both (leb dataAt (e .start)) (leb (e .start + e .length) total)))
 
 -- "An entry is fit if flags are 0..3 and, where it exists, .."
-unfoldable pub entryFits : ℕ → ℕ → AccountEntry → Bool
-entryFits dataAt total e = both (leb (e .flags) 3) (either (not (exists e)) (bodyValid dataAt total e))
+unfoldable pub validWithin : ℕ → ℕ → AccountEntry → Bool
+validWithin dataAt total e = both (leb (e .flags) 3) (either (not (exists e)) (bodyValid dataAt total e))
 
 -- the entry of an account is fit, with the ground's own data offset and total
 unfoldable pub entryValid : List ℕ → Account → Bool
-entryValid s a = entryFits (headerOf s .«data_at») (headerOf s .total) (entryOf s a)
+entryValid s a = validWithin (headerOf s .«data_at») (headerOf s .total) (entryOf s a)
 
 -- "64 bytes of metadata", after the entry's first 16 bytes
 abbrev pub metadataSize : ℕ

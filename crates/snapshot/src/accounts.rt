@@ -8,7 +8,7 @@ use words::numbers::u32_at;
 ghost use mathlib.Core.Path.{_≡_};
 ghost use Prim.Native.Nat.{_+_, _*_, _≤_};
 ghost use lib.ListN.{length, getD};
-ghost use Rattle.snapshot.specs.Accounts.{entryAt, entryOf, exists, writable, dataLength, bodyValid, entryFits, entryValid, metadataAt, metadataOf};
+ghost use Rattle.snapshot.specs.Accounts.{entryAt, entryOf, exists, writable, dataLength, bodyValid, validWithin, entryValid, metadataAt, metadataOf};
 
 // An account of the snapshot, by its number.
 pub struct Account(pub u16);
@@ -80,7 +80,7 @@ impl AccountEntry {
 
     // Whether the entry is valid in a snapshot whose data lies between `data_at` and `total`.
     pub fn valid(self, data_at: usize, total: usize) -> bool
-        ensures { λ r. ⌜ r ≡ entryFits «data_at» total self ⌝ }
+        ensures { λ r. ⌜ r ≡ validWithin «data_at» total self ⌝ }
     {
         if 3 < self.flags {
             return false;

@@ -37,7 +37,7 @@ use Rattle.segments.proofs.Requests.{request-length, within-length, length-with
 use Rattle.segments.proofs.Table.{storeOf, type-data, data-row, data-known, data-is, data-type, plain-never, permitted-fetch, permitted-store, permitted-load}
 use Rattle.translate.specs.Place.{refusing}
 use Rattle.translate.specs.Checks.{firstChecks, rowChecks}
-use Rattle.translate.specs.Translate.{program, entryFit, ownedBy, owned, regionRoom, roomOf, rowCheck, dataPlace, regionPlace, placeOf, inRow, inSegment, translateOf}
+use Rattle.translate.specs.Translate.{program, concernedValid, ownedBy, owned, regionRoom, roomOf, rowCheck, dataPlace, regionPlace, placeOf, inRow, inSegment, translateOf}
 use Rattle.translate.specs.declared.request.Request.{Request}
 use Rattle.translate.specs.declared.place.Translation.{Translation}
 use Rattle.translate.specs.declared.place.Translation.the-variants.{Allowed, Refused}
@@ -74,7 +74,7 @@ peel t l false r y h e = absurd (differ (last t) l (ap last (sym e) ∙ h))
 
 -- what the tests of a row ask
 pub record RowPassed (s c : List ℕ) (p : Presence) (rule : StoreRule) (q : Request) : Type 0 where
-  pub entry : entryFit s c p q ≡ true
+  pub entry : concernedValid s c p q ≡ true
   pub aligned : aligned (q .kind) (q .offset) (q .length) ≡ true
   pub permitted : permitted (q .kind) p rule (owned s c p q) ≡ true
   pub within : q .offset % 4096 + q .length ≤ 4096
@@ -175,7 +175,7 @@ pub record DataAccess (s c p : List ℕ) (kind a n : ℕ) : Type 0 where
 -- where they pass, the place is that of the account's page
 pub data-place : {s c p : List ℕ} {kind a n : ℕ} → DataAccess s c p kind a n
     → translateOf s c p kind a n ≡ dataPlace c kind (accountOf a) (entryOf s (accountOf a) .start) (offsetOf a)
-unfolding entryFit owned roomOf placeOf
+unfolding concernedValid owned roomOf placeOf
 data-place {s} {kind} {a} d =
     accepts
     (record {
@@ -200,7 +200,7 @@ data-place {s} {kind} {a} d =
 module _ (s c p : List ℕ) (kind a n : ℕ) {t : Translation} (e : translateOf s c p kind a n ≡ t) (l : last t ≡ true) (type : typeOf a ≡ 3) where
   -- the tests have passed
   data-access : DataAccess s c p kind a n
-  unfolding entryFit owned roomOf
+  unfolding concernedValid owned roomOf
   data-access =
       let x = accepted s c p kind a n e l in
       let f : rowOf rules 3 (indexOf a) (accounts s) ≡ Is (x .row) = rw type at (x .found) in

@@ -12,7 +12,7 @@ use Rattle.refusal.specs.declared.Refusal.{Refusal}
 use Rattle.refusal.specs.declared.Check.{Check}
 use Rattle.refusal.specs.declared.Check.the-variants.{Pass, Stop}
 use Rattle.snapshot.specs.Header.{headerOf}
-use Rattle.snapshot.specs.Accounts.{entryAt, entryOf, entryFits, entryValid}
+use Rattle.snapshot.specs.Accounts.{entryAt, entryOf, validWithin, entryValid}
 use Rattle.snapshot.specs.declared.header.Header.{Header}
 use Rattle.snapshot.specs.declared.accounts.Account.{Account}
 use Rattle.snapshot.specs.declared.accounts.AccountEntry.{AccountEntry}
@@ -25,7 +25,7 @@ use Rattle.segments.specs.declared.rules.Presence.{Presence}
 use Rattle.segments.specs.declared.rules.StoreRule.{StoreRule}
 use Rattle.translate.specs.Checks.{rowChecks}
 use Rattle.translate.specs.Place.{refusing}
-use Rattle.translate.specs.Translate.{entryFit, owned, roomOf, rowCheck, placeOf, inRow, Ready}
+use Rattle.translate.specs.Translate.{concernedValid, owned, roomOf, rowCheck, placeOf, inRow, Ready}
 use Rattle.translate.specs.declared.request.Request.{Request}
 use Rattle.translate.specs.declared.place.Place.{Place}
 use Rattle.translate.specs.declared.place.Translation.{Translation}
@@ -34,7 +34,7 @@ use Rattle.translate.specs.declared.place.Translation.the-variants.{Allo
 -- ---- the tests of a row, then the place
 
 module _ (s c : List ℕ) (p : Presence) (rule : StoreRule) (q : Request) {fit allowed : Bool} {room : ℕ} {check : Check}
-    (entry : fit ≡ entryFit s c p q) (leave : allowed ≡ permitted (q .kind) p rule (owned s c p q))
+    (entry : fit ≡ concernedValid s c p q) (leave : allowed ≡ permitted (q .kind) p rule (owned s c p q))
     (present : room ≡ roomOf s c p q) (tested : check ≡ rowChecks fit allowed q room) where
   -- the tests made are the definition's
   same-check : rowCheck s c p rule q ≡ check
@@ -64,7 +64,7 @@ current-read c live read = rw (← live) read
 
 -- an entry that was read is tested as the account's
 pub entry-read : (s : List ℕ) (a : Account) {h : Header} {e : AccountEntry} {r : Bool} → h ≡ headerOf s → e ≡ entryOf s a
-    → r ≡ entryFits (h .«data_at») (h .total) e
+    → r ≡ validWithin (h .«data_at») (h .total) e
     → r ≡ entryValid s a
 unfolding entryValid
 entry-read s a header entry tested = rw (← header, ← entry) tested

@@ -25,7 +25,7 @@ use Rattle.segments.specs.declared.rules.Presence.{Presence}
 use Rattle.segments.specs.declared.rules.Presence.the-variants.{Transaction, Shadow, Program, Context, Metadata, Data, Stack, Heap}
 use Rattle.segments.proofs.Requests.{request-length}
 use Rattle.segments.proofs.Table.{data-type, metadata-known}
-use Rattle.translate.specs.Translate.{program, entryFit, roomOf, placeOf, translateOf}
+use Rattle.translate.specs.Translate.{program, concernedValid, roomOf, placeOf, translateOf}
 use Rattle.translate.specs.Fits.{Fits}
 use Rattle.translate.specs.declared.place.Place.{Place}
 use Rattle.translate.specs.declared.place.Translation.{Translation}
@@ -82,7 +82,7 @@ module _ (s c p : List ℕ) (kind a n : ℕ) (q : Place) (e : translateOf s c p 
   module _ (x : Accepted s c p kind a n (Allowed q)) (b : BuffersFacts s c p) (some : 1 ≤ n) where
     place-fits : (r : Presence) → x .row .presence ≡ r → RowPassed s c r (x .row .store) (requestOf kind a n)
         → AnswerFits s c p n (placeOf s c r (requestOf kind a n))
-    unfolding entryFit roomOf placeOf
+    unfolding concernedValid roomOf placeOf
     place-fits Transaction i h = let f : SnapshotFacts s = snapshot-facts s (b .snapshot) in omega (arith, h .present)
     place-fits Shadow i h = let g : ControlFacts c = control-facts c (b .control) in omega (arith, h .present)
     place-fits Program i h = original-fits s c p b (program c) (offsetOf a) n (h .entry) some (omega (arith, h .present))

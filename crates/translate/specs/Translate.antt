@@ -46,15 +46,15 @@ abbrev pub program : List ℕ → Account
 program c = current c .program
 
 -- "1 for the entry of the account concerned": the index's in types 2 and 3, the current program's in 0/3, none in the other rows
-unfoldable pub entryFit : List ℕ → List ℕ → Presence → Request → Bool
-entryFit s c Transaction q = true
-entryFit s c Shadow q = true
-entryFit s c Program q = entryValid s (program c)
-entryFit s c Context q = true
-entryFit s c Metadata q = entryValid s (indexed q)
-entryFit s c Data q = entryValid s (indexed q)
-entryFit s c Stack q = true
-entryFit s c Heap q = true
+unfoldable pub concernedValid : List ℕ → List ℕ → Presence → Request → Bool
+concernedValid s c Transaction q = true
+concernedValid s c Shadow q = true
+concernedValid s c Program q = entryValid s (program c)
+concernedValid s c Context q = true
+concernedValid s c Metadata q = entryValid s (indexed q)
+concernedValid s c Data q = entryValid s (indexed q)
+concernedValid s c Stack q = true
+concernedValid s c Heap q = true
 
 -- "writable, and owned by the current program"
 abbrev pub ownedBy : AccountEntry → Account → Bool
@@ -93,7 +93,7 @@ roomOf s c Heap q = regionRoom region.Heap (current c .heap) (q .offset)
 
 -- the row's tests, in order
 unfoldable pub rowCheck : List ℕ → List ℕ → Presence → StoreRule → Request → Check
-rowCheck s c p rule q = rowChecks (entryFit s c p q) (permitted (q .kind) p rule (owned s c p q)) q (roomOf s c p q)
+rowCheck s c p rule q = rowChecks (concernedValid s c p q) (permitted (q .kind) p rule (owned s c p q)) q (roomOf s c p q)
 
 -- ---- the place, once every byte is present
 

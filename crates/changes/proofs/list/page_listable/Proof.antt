@@ -8,7 +8,7 @@ use lib.Dec.{leb}
 use borrow.Author.Needs.{needs}
 use borrow.Author.Tests.{lt-ltb, le-ltb}
 use Rattle.snapshot.specs.Header.{headerOf}
-use Rattle.snapshot.specs.Accounts.{known, entryOf, dataLength, entryFits, entryValid}
+use Rattle.snapshot.specs.Accounts.{known, entryOf, dataLength, validWithin, entryValid}
 use Rattle.snapshot.specs.declared.header.Header.{Header}
 use Rattle.snapshot.specs.declared.accounts.Account.{Account}
 use Rattle.snapshot.specs.declared.accounts.AccountEntry.{AccountEntry}
@@ -29,7 +29,7 @@ module _ (s : List ℕ) (a : Account) (p : Page) (h : Header) (e : h ≡ headerO
   unfolding pageListable
   unknown l = rw (le-ltb (a .0) (headerOf s .accounts) (rw e at l))
 
-  module _ (l : a .0 < h .accounts) (x : AccountEntry) (ex : x ≡ entryOf s a) (v : Bool) (ev : v ≡ entryFits (h .«data_at») (h .total) x) where
+  module _ (l : a .0 < h .accounts) (x : AccountEntry) (ex : x ≡ entryOf s a) (v : Bool) (ev : v ≡ validWithin (h .«data_at») (h .total) x) where
     -- the code's test of the entry is the definition's
     fits : entryValid s a ≡ v
     unfolding entryValid

@@ -10,7 +10,7 @@ use Rattle.refusal.specs.Checks.{need, _then_}
 use Rattle.refusal.specs.declared.Check.the-variants.{Pass, Stop}
 use Rattle.refusal.specs.declared.Refusal.the-variants.{Invalid, NoSegment, Absent}
 use Rattle.snapshot.specs.Header.{headerOf}
-use Rattle.snapshot.specs.Accounts.{known, entryOf, dataLength, entryFits, entryValid}
+use Rattle.snapshot.specs.Accounts.{known, entryOf, dataLength, validWithin, entryValid}
 use Rattle.snapshot.specs.declared.header.Header.{Header}
 use Rattle.snapshot.specs.declared.accounts.Account.{Account}
 use Rattle.snapshot.specs.declared.accounts.AccountEntry.{AccountEntry}
@@ -43,7 +43,7 @@ module _ (s c p : List ℕ) (a : Account) (q : Page) {b : Bool} (v : b ≡ buffe
     unfolding viewCheck need _then_
     unknown l = rw (← v, t, above s a e l)
 
-    module _ (l : a .0 < h .accounts) {n : AccountEntry} {w : Bool} (f : n ≡ entryOf s a) (g : w ≡ entryFits (h .«data_at») (h .total) n) where
+    module _ (l : a .0 < h .accounts) {n : AccountEntry} {w : Bool} (f : n ≡ entryOf s a) (g : w ≡ validWithin (h .«data_at») (h .total) n) where
       -- the test of the entry
       fit : entryValid s a ≡ w
       unfolding entryValid

@@ -10,7 +10,7 @@ use Rattle.refusal.specs.declared.Check.the-variants.{Pass, Stop}
 use Rattle.refusal.specs.declared.Refusal.the-variants.{Invalid, NoSegment}
 use Rattle.refusal.proofs.Checks.{need-on, need-stop, need-last, need-refused}
 use Rattle.snapshot.specs.Header.{headerOf}
-use Rattle.snapshot.specs.Accounts.{known, entryOf, exists, entryFits, entryValid}
+use Rattle.snapshot.specs.Accounts.{known, entryOf, exists, validWithin, entryValid}
 use Rattle.snapshot.specs.declared.header.Header.{Header}
 use Rattle.snapshot.specs.declared.accounts.Account.{Account}
 use Rattle.snapshot.specs.declared.accounts.AccountEntry.{AccountEntry}
@@ -29,7 +29,7 @@ module _ (s : List ℕ) (a : Account) {h : Header} (e : h ≡ headerOf s) where
   below : a .0 < h .accounts → known s a ≡ true
   below l = lt-ltb _ _ (rw e at l)
 
-  module _ (l : a .0 < h .accounts) {n : AccountEntry} {v : Bool} (f : n ≡ entryOf s a) (g : v ≡ entryFits (h .«data_at») (h .total) n) where
+  module _ (l : a .0 < h .accounts) {n : AccountEntry} {v : Bool} (f : n ≡ entryOf s a) (g : v ≡ validWithin (h .«data_at») (h .total) n) where
     -- the test of the entry
     fit : entryValid s a ≡ v
     unfolding entryValid

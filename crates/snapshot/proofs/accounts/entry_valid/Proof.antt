@@ -1,4 +1,4 @@
--- `snapshot::accounts::entry_valid` meets its contract: `entryValid` is `entryFits` at the header and the entry read. Assumes nothing.
+-- `snapshot::accounts::entry_valid` meets its contract: `entryValid` is `validWithin` at the header and the entry read. Assumes nothing.
 use borrow.Author.Needs.{needs}
 use Rattle.snapshot.specs.Accounts.{entryValid}
 use Rattle.snapshot.proofs.accounts.entry_valid.Statement.{statement}

@@ -9,7 +9,7 @@ use Rattle.refusal.specs.declared.Refusal.{Refusal}
 use Rattle.refusal.specs.declared.Check.{Check}
 use Rattle.refusal.specs.declared.Check.the-variants.{Pass, Stop}
 use Rattle.snapshot.specs.Header.{headerOf}
-use Rattle.snapshot.specs.Accounts.{entryOf, dataLength, entryFits}
+use Rattle.snapshot.specs.Accounts.{entryOf, dataLength, validWithin}
 use Rattle.snapshot.specs.declared.header.Header.{Header}
 use Rattle.snapshot.specs.declared.accounts.AccountEntry.{AccountEntry}
 use Rattle.snapshot.proofs.Facts.{snapshot-facts, entry-inside}
@@ -20,7 +20,7 @@ use Rattle.segments.specs.Rules.{permitted}
 use Rattle.segments.specs.declared.rules.Presence.the-variants.{Data}
 use Rattle.segments.specs.declared.rules.StoreRule.{StoreRule}
 use Rattle.translate.specs.Checks.{rowChecks}
-use Rattle.translate.specs.Translate.{indexed, program, entryFit, ownedBy, owned, roomOf, dataPlace, placeOf, inRow}
+use Rattle.translate.specs.Translate.{indexed, program, concernedValid, ownedBy, owned, roomOf, dataPlace, placeOf, inRow}
 use Rattle.translate.specs.declared.request.Request.{Request}
 use Rattle.translate.specs.declared.place.Translation.{Translation}
 use Rattle.translate.specs.declared.place.Translation.the-variants.{Refused}
@@ -31,7 +31,7 @@ use Rattle.translate.proofs.accounts.in_data.Tie as tie
 module _ (s c : List ℕ) (rule : StoreRule) (q : Request) {h : Header} {d : ℕ} {i : Invocation} {e : AccountEntry} {own allowed fit : Bool} {n room : ℕ} {check : Check}
     (header : h ≡ headerOf s) (live : d ≡ invocations c) (read : i ≡ invocationOf c d) (entry : e ≡ entryOf s (indexed q))
     (owner : own ≡ ownedBy e (i .program)) (leave : allowed ≡ permitted (q .kind) Data rule own)
-    (fits : fit ≡ entryFits (h .«data_at») (h .total) e) (long : n ≡ dataLength e) (present : room ≡ n - q .offset)
+    (fits : fit ≡ validWithin (h .«data_at») (h .total) e) (long : n ≡ dataLength e) (present : room ≡ n - q .offset)
     (tested : check ≡ rowChecks fit allowed q room) where
   -- the test of the owner
   may : allowed ≡ permitted (q .kind) Data rule (owned s c Data q)
@@ -45,14 +45,14 @@ module _ (s c : List ℕ) (rule : StoreRule) (q : Request) {h : Header} {d : ℕ
 
   -- the tests pass
   placed : {t : Translation} → check ≡ Pass → t ≡ dataPlace c (q .kind) (indexed q) (e .start) (q .offset) → t ≡ inRow s c Data rule q
-  unfolding entryFit placeOf
+  unfolding concernedValid placeOf
   placed x h =
       passed s c Data rule q (entry-read s (indexed q) header entry fits) may there tested x
       (h ∙ ap (λ (y : AccountEntry). dataPlace c (q .kind) (indexed q) (y .start) (q .offset)) entry)
 
   -- a test refuses
   stopped : {r : Refusal} → check ≡ Stop r → Refused r ≡ inRow s c Data rule q
-  unfolding entryFit
+  unfolding concernedValid
   stopped x = refused s c Data rule q (entry-read s (indexed q) header entry fits) may there tested x
 
 whole-header-requires : tie.Need-whole-header-requires

@@ -9,7 +9,7 @@ use borrow.Author.Needs.{needs}
 use Rattle.choice.proofs.Tests.{pick-true, pick-false}
 use Rattle.refusal.specs.declared.Check.{Check}
 use Rattle.snapshot.specs.Header.{headerOf}
-use Rattle.snapshot.specs.Accounts.{entryOf, exists, entryFits, metadataSize, metadataAt}
+use Rattle.snapshot.specs.Accounts.{entryOf, exists, validWithin, metadataSize, metadataAt}
 use Rattle.snapshot.specs.declared.header.Header.{Header}
 use Rattle.snapshot.specs.declared.accounts.AccountEntry.{AccountEntry}
 use Rattle.snapshot.proofs.Facts.{snapshot-facts, entry-inside}
@@ -18,7 +18,7 @@ use Rattle.segments.specs.declared.rules.Presence.the-variants.{Metadata}
 use Rattle.segments.specs.declared.rules.StoreRule.{StoreRule}
 use Rattle.translate.specs.Checks.{rowChecks}
 use Rattle.translate.specs.Place.{refusing}
-use Rattle.translate.specs.Translate.{indexed, entryFit, owned, roomOf, placeOf, inRow}
+use Rattle.translate.specs.Translate.{indexed, concernedValid, owned, roomOf, placeOf, inRow}
 use Rattle.translate.specs.declared.request.Request.{Request}
 use Rattle.translate.specs.declared.place.Place.the-variants.{InSnapshot, Zeros}
 use Rattle.translate.specs.declared.place.Translation.{Translation}
@@ -29,7 +29,7 @@ use Rattle.translate.proofs.accounts.in_metadata.Tie as tie
 
 module _ (s c : List ℕ) (rule : StoreRule) (q : Request) {h : Header} {e : AccountEntry} {allowed fit there : Bool} {room : ℕ} {check : Check}
     (header : h ≡ headerOf s) (entry : e ≡ entryOf s (indexed q)) (leave : allowed ≡ permitted (q .kind) Metadata rule false)
-    (fits : fit ≡ entryFits (h .«data_at») (h .total) e) (present : room ≡ metadataSize - q .offset)
+    (fits : fit ≡ validWithin (h .«data_at») (h .total) e) (present : room ≡ metadataSize - q .offset)
     (tested : check ≡ rowChecks fit allowed q room) (asked : there ≡ exists e) where
   -- whether the account exists
   known : (b : Bool) → there ≡ b → exists (entryOf s (indexed q)) ≡ b
@@ -38,14 +38,14 @@ module _ (s c : List ℕ) (rule : StoreRule) (q : Request) {h : Header} {e : Acc
   -- it does
   stands : {n : ℕ} {t : Translation} → there ≡ true → n ≡ metadataAt (indexed q) → t ≡ refusing check (Allowed (InSnapshot (n + q .offset)))
       → t ≡ inRow s c Metadata rule q
-  unfolding entryFit owned roomOf placeOf
+  unfolding concernedValid owned roomOf placeOf
   stands x at h =
       settled s c Metadata rule q (entry-read s (indexed q) header entry fits) leave present tested h
       (ap (λ (n : ℕ). Allowed (InSnapshot (n + q .offset))) at ∙ sym (pick-true _ _ _ (known true x)))
 
   -- it does not
   zeros : {t : Translation} → there ≡ false → t ≡ refusing check (Allowed Zeros) → t ≡ inRow s c Metadata rule q
-  unfolding entryFit owned roomOf placeOf
+  unfolding concernedValid owned roomOf placeOf
   zeros x h =
       settled s c Metadata rule q (entry-read s (indexed q) header entry fits) leave present tested h
       (sym (pick-false _ _ _ (known false x)))

@@ -8,7 +8,7 @@ use native.Mathlib.Omega.{arith}
 use borrow.Author.Needs.{needs}
 use Rattle.refusal.specs.declared.Check.{Check}
 use Rattle.snapshot.specs.Header.{headerOf}
-use Rattle.snapshot.specs.Accounts.{entryOf, dataLength, entryFits}
+use Rattle.snapshot.specs.Accounts.{entryOf, dataLength, validWithin}
 use Rattle.snapshot.specs.declared.header.Header.{Header}
 use Rattle.snapshot.specs.declared.accounts.AccountEntry.{AccountEntry}
 use Rattle.snapshot.proofs.Facts.{snapshot-facts}
@@ -20,7 +20,7 @@ use Rattle.segments.specs.declared.rules.Presence.the-variants.{Program}
 use Rattle.segments.specs.declared.rules.StoreRule.{StoreRule}
 use Rattle.translate.specs.Checks.{rowChecks}
 use Rattle.translate.specs.Place.{refusing}
-use Rattle.translate.specs.Translate.{program, entryFit, owned, roomOf, placeOf, inRow}
+use Rattle.translate.specs.Translate.{program, concernedValid, owned, roomOf, placeOf, inRow}
 use Rattle.translate.specs.declared.request.Request.{Request}
 use Rattle.translate.specs.declared.place.Place.the-variants.{InSnapshot}
 use Rattle.translate.specs.declared.place.Translation.{Translation}
@@ -36,13 +36,13 @@ arm : (s c : List ℕ) (rule : StoreRule) (q : Request) {h : Header} {d : ℕ} {
     → i ≡ invocationOf c d
     → e ≡ entryOf s (i .program)
     → allowed ≡ permitted (q .kind) Program rule false
-    → fit ≡ entryFits (h .«data_at») (h .total) e
+    → fit ≡ validWithin (h .«data_at») (h .total) e
     → n ≡ dataLength e
     → room ≡ n - q .offset
     → check ≡ rowChecks fit allowed q room
     → t ≡ refusing check (Allowed (InSnapshot (e .start + q .offset)))
     → t ≡ inRow s c Program rule q
-unfolding entryFit owned roomOf placeOf
+unfolding concernedValid owned roomOf placeOf
 arm s c rule q {e = e} header live read entry leave fits long present tested h =
     let own : e ≡ entryOf s (program c) = entry ∙ ap (λ (x : Invocation). entryOf s (x .program)) (current-read c live read) in
     settled s c Program rule q (entry-read s (program c) header own fits) leave

@@ -17,7 +17,7 @@ use Rattle.segments.specs.Rules.{permitted}
 use Rattle.segments.specs.declared.rules.Presence.{Presence}
 use Rattle.segments.specs.declared.rules.StoreRule.{StoreRule}
 use Rattle.translate.specs.Checks.{rowChecks}
-use Rattle.translate.specs.Translate.{entryFit, owned, regionRoom, roomOf, regionPlace, presenceOf, placeOf, inRow}
+use Rattle.translate.specs.Translate.{concernedValid, owned, regionRoom, roomOf, regionPlace, presenceOf, placeOf, inRow}
 use Rattle.translate.specs.declared.request.Request.{Request}
 use Rattle.translate.specs.declared.place.Translation.{Translation}
 use Rattle.translate.specs.declared.place.Translation.the-variants.{Refused}
@@ -28,8 +28,8 @@ use Rattle.translate.proofs.regions.in_region.Tie as tie
 -- ---- what the row asks and names, by the region
 
 module _ (s c : List ℕ) (q : Request) where
-  no-entry : (r : Region) → true ≡ entryFit s c (presenceOf r) q
-  unfolding entryFit
+  no-entry : (r : Region) → true ≡ concernedValid s c (presenceOf r) q
+  unfolding concernedValid
   no-entry Stack = refl
   no-entry Heap = refl
 

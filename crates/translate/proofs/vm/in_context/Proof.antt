@@ -15,7 +15,7 @@ use Rattle.segments.specs.declared.rules.Presence.the-variants.{Context}
 use Rattle.segments.specs.declared.rules.StoreRule.{StoreRule}
 use Rattle.translate.specs.Checks.{rowChecks}
 use Rattle.translate.specs.Place.{refusing}
-use Rattle.translate.specs.Translate.{entryFit, owned, contextRoom, roomOf, placeOf, inRow}
+use Rattle.translate.specs.Translate.{concernedValid, owned, contextRoom, roomOf, placeOf, inRow}
 use Rattle.translate.specs.declared.request.Request.{Request}
 use Rattle.translate.specs.declared.place.Place.the-variants.{InSnapshot}
 use Rattle.translate.specs.declared.place.Translation.{Translation}
@@ -36,7 +36,7 @@ arm : (s c : List ℕ) (rule : StoreRule) (q : Request) {h : Header} {allowed : 
     → check ≡ rowChecks true allowed q room
     → t ≡ refusing check (place h (q .offset))
     → t ≡ inRow s c Context rule q
-unfolding entryFit owned roomOf placeOf
+unfolding concernedValid owned roomOf placeOf
 arm s c rule q header leave present tested h =
     settled s c Context rule q refl leave (present ∙ ap (λ (x : Header). contextRoom (x .contexts) (q .offset)) header) tested h
     (ap (λ (x : Header). place x (q .offset)) header)

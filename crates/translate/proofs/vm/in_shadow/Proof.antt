@@ -3,7 +3,7 @@ use mathlib.Core.Path.{refl}
 use native.Mathlib.Omega.{arith}
 use borrow.Author.Needs.{needs}
 use Rattle.segments.specs.declared.rules.Presence.the-variants.{Shadow}
-use Rattle.translate.specs.Translate.{entryFit, owned, roomOf, placeOf}
+use Rattle.translate.specs.Translate.{concernedValid, owned, roomOf, placeOf}
 use Rattle.translate.proofs.Arms.{settled}
 use Rattle.translate.proofs.vm.in_shadow.Statement.{statement}
 use Rattle.translate.proofs.vm.in_shadow.Tie as tie
@@ -27,7 +27,7 @@ settle-requires : tie.Need-settle-requires
 settle-requires c κs = search needs
 
 returns : tie.Need-returns
-unfolding entryFit owned roomOf placeOf
+unfolding concernedValid owned roomOf placeOf
 returns c =
     settled _ _ Shadow _ _ refl (c .before .before .before .before .permitted .ensures) (c .before .before .before .rest .ensures) (c .before .before .row-checks .ensures) (c .settle .ensures)
     refl

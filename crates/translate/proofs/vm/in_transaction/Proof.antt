@@ -14,7 +14,7 @@ use Rattle.segments.specs.declared.rules.Presence.the-variants.{Transaction}
 use Rattle.segments.specs.declared.rules.StoreRule.{StoreRule}
 use Rattle.translate.specs.Checks.{rowChecks}
 use Rattle.translate.specs.Place.{refusing}
-use Rattle.translate.specs.Translate.{entryFit, owned, roomOf, placeOf, inRow}
+use Rattle.translate.specs.Translate.{concernedValid, owned, roomOf, placeOf, inRow}
 use Rattle.translate.specs.declared.request.Request.{Request}
 use Rattle.translate.specs.declared.place.Place.the-variants.{InSnapshot}
 use Rattle.translate.specs.declared.place.Translation.{Translation}
@@ -31,7 +31,7 @@ arm : (s c : List ℕ) (rule : StoreRule) (q : Request) {h : Header} {allowed : 
     → check ≡ rowChecks true allowed q room
     → t ≡ refusing check (Allowed (InSnapshot (h .«transaction_at» + q .offset)))
     → t ≡ inRow s c Transaction rule q
-unfolding entryFit owned roomOf placeOf
+unfolding concernedValid owned roomOf placeOf
 arm s c rule q header leave present tested h =
     settled s c Transaction rule q refl leave (present ∙ ap (λ (x : Header). x .transaction - q .offset) header) tested h
     (ap (λ (x : Header). Allowed (InSnapshot (x .«transaction_at» + q .offset))) header)

@@ -1,4 +1,4 @@
--- `snapshot::accounts::AccountEntry::valid` meets its contract. Flags above 3 decide `entryFits`, then whether the account exists, then
+-- `snapshot::accounts::AccountEntry::valid` meets its contract. Flags above 3 decide `validWithin`, then whether the account exists, then
 -- the rules of its fields. Assumes nothing.
 use Prim.Native.Nat.{ℕ, _≤_, _<_}
 use mathlib.Core.Path.{_≡_, sym, _∙_}
@@ -6,26 +6,26 @@ use mathlib.Core.Bool.{true, false}
 use native.Mathlib.Omega.{arith}
 use borrow.Author.Needs.{needs}
 use borrow.Author.Tests.{lt-leb, le-leb}
-use Rattle.snapshot.specs.Accounts.{exists, bodyValid, entryFits}
+use Rattle.snapshot.specs.Accounts.{exists, bodyValid, validWithin}
 use Rattle.snapshot.specs.declared.accounts.AccountEntry.{AccountEntry}
 use Rattle.snapshot.proofs.accounts.AccountEntry.valid.Statement.{statement}
 use Rattle.snapshot.proofs.accounts.AccountEntry.valid.Tie as tie
 
 module _ (d t : ℕ) (e : AccountEntry) where
   -- a flag that there is not
-  other-flags : 3 < e .flags → false ≡ entryFits d t e
-  unfolding entryFits
+  other-flags : 3 < e .flags → false ≡ validWithin d t e
+  unfolding validWithin
   other-flags l = rw (lt-leb _ _ l)
 
   module _ (f : e .flags ≤ 3) where
     -- the account exists
-    present : exists e ≡ true → bodyValid d t e ≡ entryFits d t e
-    unfolding entryFits
+    present : exists e ≡ true → bodyValid d t e ≡ validWithin d t e
+    unfolding validWithin
     present x = rw (le-leb _ _ f, x)
 
     -- the account does not exist
-    absent : exists e ≡ false → true ≡ entryFits d t e
-    unfolding entryFits
+    absent : exists e ≡ false → true ≡ validWithin d t e
+    unfolding validWithin
     absent x = rw (le-leb _ _ f, x)
 
 returns : tie.Need-returns

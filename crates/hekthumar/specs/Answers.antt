@@ -1,0 +1,48 @@
+-- The answers of the C interface: for each case of an answer its number and its values. A field that the case does not name is 0.
+-- Assumes nothing.
+use Rattle.refusal.specs.Numbers.{numberOf, done}
+use Rattle.address.specs.declared.Joined.{Joined}
+use Rattle.address.specs.declared.Fields.{Fields}
+use Rattle.translate.specs.declared.place.Place.{Place}
+use Rattle.translate.specs.declared.place.Place.the-variants.{InSnapshot, InControl, Zeros, InPool, Take}
+use Rattle.translate.specs.declared.place.Translation.{Translation}
+use Rattle.translate.specs.declared.place.Translation.the-variants.{Allowed, Refused}
+use Rattle.access.specs.declared.loads.Value.{Value}
+use Rattle.changes.specs.declared.view.View.{View}
+use Rattle.changes.specs.declared.view.View.the-variants as view
+use Rattle.hekthumar.specs.declared.addresses.AddressAnswer.{AddressAnswer}
+use Rattle.hekthumar.specs.declared.addresses.FieldsAnswer.{FieldsAnswer}
+use Rattle.hekthumar.specs.declared.accesses.PlaceAnswer.{PlaceAnswer}
+use Rattle.hekthumar.specs.declared.accesses.ValueAnswer.{ValueAnswer}
+use Rattle.hekthumar.specs.declared.changes_of.ViewAnswer.{ViewAnswer}
+
+-- an address and its number
+abbrev pub addressAnswer : Joined → AddressAnswer
+addressAnswer j = record { address = j .address .0; number = j .number }
+
+-- an address's fields and its number
+abbrev pub fieldsAnswer : Fields → FieldsAnswer
+fieldsAnswer f = record { offset = f .offset; index = f .index; segment = f .«segment_type»; number = f .number }
+
+-- a value and its number
+abbrev pub valueAnswer : Value → ValueAnswer
+valueAnswer v = record { value = v .value; number = v .number }
+
+-- a place: 1 in the snapshot, 2 in the control block, 3 zeros, 4 in the pool, 5 a frame that would be taken for a copy
+abbrev pub placeOf : Place → PlaceAnswer
+placeOf (InSnapshot at) = record { at = at; frame = 0; account = 0; page = 0; place = 1; number = done }
+placeOf (InControl at) = record { at = at; frame = 0; account = 0; page = 0; place = 2; number = done }
+placeOf Zeros = record { at = 0; frame = 0; account = 0; page = 0; place = 3; number = done }
+placeOf (InPool at) = record { at = at; frame = 0; account = 0; page = 0; place = 4; number = done }
+placeOf (Take at f a q) = record { at = at; frame = f .0; account = a .0; page = q .0; place = 5; number = done }
+
+-- translation's answer: 0 where it is refused
+abbrev pub placeAnswer : Translation → PlaceAnswer
+placeAnswer (Allowed q) = placeOf q
+placeAnswer (Refused r) = record { at = 0; frame = 0; account = 0; page = 0; place = 0; number = numberOf r }
+
+-- a view: 1 in the snapshot, 2 in the pool, 0 where it is refused
+abbrev pub viewAnswer : View → ViewAnswer
+viewAnswer (view.InSnapshot at n) = record { start = at; length = n; holder = 1; number = done }
+viewAnswer (view.InPool at n) = record { start = at; length = n; holder = 2; number = done }
+viewAnswer (view.Refused r) = record { start = 0; length = 0; holder = 0; number = numberOf r }

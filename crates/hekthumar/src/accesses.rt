@@ -1,0 +1,187 @@
+// Translation and the five accesses.
+use access::loads::fetch;
+use access::loads::load;
+use access::loads::load_span;
+use access::stores::store;
+use access::stores::store_span;
+use address::Address;
+use refusal::DONE;
+use refusal::number;
+use translate::place::Place;
+use translate::place::Translation;
+use translate::translation::translate;
+ghost use mathlib.Core.Path.{_≡_};
+ghost use lib.ListN.{length};
+ghost use Rattle.words.specs.Words.{wordBytes};
+ghost use Rattle.segments.specs.Kinds.{kindStore, kindStoreSpan};
+ghost use Rattle.translate.specs.Translate.{translateOf};
+ghost use Rattle.access.specs.Loads.{loadOf, fetchOf, loadSpanNumber, loadSpanOut};
+ghost use Rattle.access.specs.Stores.{storeNumber, storeControl, storePool};
+ghost use Rattle.hekthumar.specs.Answers.{placeOf, placeAnswer, valueAnswer};
+
+// Translation's answer: a field that the case does not name is 0.
+#[repr(C)]
+pub struct PlaceAnswer {
+    pub at: u64,
+    pub frame: u16,
+    pub account: u16,
+    pub page: u16,
+    pub place: u8,
+    pub number: u8,
+}
+
+// A value, or 0 and the number of the refusal.
+#[repr(C)]
+pub struct ValueAnswer {
+    pub value: u64,
+    pub number: u8,
+}
+
+// An answer with a place from the start of a buffer: 1 snapshot, 2 control block, 3 zeros, 4 pool.
+fn at_place(place: u8, at: usize) -> PlaceAnswer
+    ensures { λ r. ⌜ r ≡ record { at = at; frame = 0; account = 0; page = 0; place = place; number = 0 } ⌝ }
+{
+    PlaceAnswer {
+        at: at as u64,
+        frame: 0,
+        account: 0,
+        page: 0,
+        place,
+        number: DONE,
+    }
+}
+
+// The place of an allowed access.
+fn place_of(p: Place) -> PlaceAnswer
+    ensures { λ r. ⌜ r ≡ placeOf p ⌝ }
+{
+    match p {
+        Place::InSnapshot(at) => at_place(1, at),
+        Place::InControl(at) => at_place(2, at),
+        Place::Zeros => at_place(3, 0),
+        Place::InPool(at) => at_place(4, at),
+        Place::Take {
+            at,
+            frame,
+            account,
+            page,
+        } => PlaceAnswer {
+            at: at as u64,
+            frame: frame.0,
+            account: account.0,
+            page: page.0,
+            place: 5,
+            number: DONE,
+        },
+    }
+}
+
+// From an address to a place or a refusal.
+#[no_mangle]
+pub extern "C" fn hekthumar_translate(
+    snapshot: &[u8],
+    control: &[u8],
+    pool: &[u8],
+    kind: u8,
+    address: u64,
+    length: usize,
+) -> PlaceAnswer
+    ensures { λ r. ⌜ r ≡ placeAnswer (translateOf (now (snapshot .entry)) (now (control .entry)) (now (pool .entry)) kind address length) ⌝ }
+{
+    let t = translate(snapshot, control, pool, kind, Address(address), length);
+    match t {
+        Translation::Allowed(p) => place_of(p),
+        Translation::Refused(r) => PlaceAnswer {
+            at: 0,
+            frame: 0,
+            account: 0,
+            page: 0,
+            place: 0,
+            number: number(r),
+        },
+    }
+}
+
+// Loads 1, 2, 4 or 8 bytes.
+#[no_mangle]
+pub extern "C" fn hekthumar_load(
+    snapshot: &[u8],
+    control: &[u8],
+    pool: &[u8],
+    address: u64,
+    size: usize,
+) -> ValueAnswer
+    ensures { λ r. ⌜ r ≡ valueAnswer (loadOf (now (snapshot .entry)) (now (control .entry)) (now (pool .entry)) address size) ⌝ }
+{
+    let v = load(snapshot, control, pool, Address(address), size);
+    ValueAnswer {
+        value: v.value,
+        number: v.number,
+    }
+}
+
+// Fetches 1, 2, 4 or 8 bytes of the current program.
+#[no_mangle]
+pub extern "C" fn hekthumar_fetch(
+    snapshot: &[u8],
+    control: &[u8],
+    pool: &[u8],
+    address: u64,
+    size: usize,
+) -> ValueAnswer
+    ensures { λ r. ⌜ r ≡ valueAnswer (fetchOf (now (snapshot .entry)) (now (control .entry)) (now (pool .entry)) address size) ⌝ }
+{
+    let v = fetch(snapshot, control, pool, Address(address), size);
+    ValueAnswer {
+        value: v.value,
+        number: v.number,
+    }
+}
+
+// Stores the lowest bytes of a value.
+#[no_mangle]
+pub extern "C" fn hekthumar_store(
+    snapshot: &[u8],
+    control: &mut [u8],
+    pool: &mut [u8],
+    address: u64,
+    size: usize,
+    value: u64,
+) -> u8
+    ensures { λ r. ⌜ r ≡ storeNumber (now (snapshot .entry)) (now (control .entry)) (now (pool .entry)) kindStore address size ⌝ }
+    ensures { λ _. ⌜ now (control .exit) ≡ storeControl (now (snapshot .entry)) (now (control .entry)) (now (pool .entry)) kindStore address size ⌝ }
+    ensures { λ _. ⌜ now (pool .exit) ≡ storePool (now (snapshot .entry)) (now (control .entry)) (now (pool .entry)) kindStore address (wordBytes size value) ⌝ }
+{
+    store(snapshot, control, pool, Address(address), size, value)
+}
+
+// Fills the lent buffer.
+#[no_mangle]
+pub extern "C" fn hekthumar_load_span(
+    snapshot: &[u8],
+    control: &[u8],
+    pool: &[u8],
+    address: u64,
+    out: &mut [u8],
+) -> u8
+    ensures { λ r. ⌜ r ≡ loadSpanNumber (now (snapshot .entry)) (now (control .entry)) (now (pool .entry)) address (now (out .entry)) ⌝ }
+    ensures { λ _. ⌜ now (out .exit) ≡ loadSpanOut (now (snapshot .entry)) (now (control .entry)) (now (pool .entry)) address (now (out .entry)) ⌝ }
+{
+    load_span(snapshot, control, pool, Address(address), out)
+}
+
+// Stores the whole of the lent buffer.
+#[no_mangle]
+pub extern "C" fn hekthumar_store_span(
+    snapshot: &[u8],
+    control: &mut [u8],
+    pool: &mut [u8],
+    address: u64,
+    bytes: &[u8],
+) -> u8
+    ensures { λ r. ⌜ r ≡ storeNumber (now (snapshot .entry)) (now (control .entry)) (now (pool .entry)) kindStoreSpan address (length (now (bytes .entry))) ⌝ }
+    ensures { λ _. ⌜ now (control .exit) ≡ storeControl (now (snapshot .entry)) (now (control .entry)) (now (pool .entry)) kindStoreSpan address (length (now (bytes .entry))) ⌝ }
+    ensures { λ _. ⌜ now (pool .exit) ≡ storePool (now (snapshot .entry)) (now (control .entry)) (now (pool .entry)) kindStoreSpan address (now (bytes .entry)) ⌝ }
+{
+    store_span(snapshot, control, pool, Address(address), bytes)
+}

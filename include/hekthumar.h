@@ -1,0 +1,152 @@
+/* Hekthumar: a proved memory layer for a virtual machine with segmented memory.
+ *
+ * The host lends three byte buffers and calls. The library keeps nothing of its own: no heap, no global, no copy that was not asked for.
+ *
+ *   snapshot  read only: account entries, block contexts, the transaction, the accounts' data
+ *   control   the VM's control block: header, 17 shadow records, the frame table; length 4,504 + 8 F
+ *   pool      F frames of 4,096 bytes, F being 0 to 1,024
+ *
+ * A buffer is a pointer and a length; a null pointer with length 0 is an empty buffer. The buffers of one call do not overlap. Every
+ * function accepts every input and returns. Each answers a number:
+ *
+ *    0  done                                    7  not permitted
+ *    1  a buffer, header, entry is not valid    8  too few free frames
+ *    2  unknown kind or wrong length            9  call at 16 invocations, return at 1
+ *    3  upper 16 bits set, or a byte absent    10  region above 4,096 pages
+ *    4  no such segment, account or program    11  output too short
+ *    5  misaligned                             12  bad change list
+ *    6  crosses a 4,096 boundary
+ *
+ * Every number but 0 changes no lent byte; a value is then 0 and a view is empty.
+ */
+#ifndef HEKTHUMAR_H
+#define HEKTHUMAR_H
+
+#include <stddef.h>
+#include <stdint.h>
+
+#ifdef __cplusplus
+extern "C" {
+#endif
+
+/* Kinds of access, for hekthumar_translate. */
+#define HEKTHUMAR_LOAD 0
+#define HEKTHUMAR_STORE 1
+#define HEKTHUMAR_FETCH 2
+#define HEKTHUMAR_LOAD_SPAN 3
+#define HEKTHUMAR_STORE_SPAN 4
+
+/* Regions, for hekthumar_resize. */
+#define HEKTHUMAR_STACK 2
+#define HEKTHUMAR_HEAP 3
+
+/* Places, in hekthumar_place. */
+#define HEKTHUMAR_NOWHERE 0     /* refused */
+#define HEKTHUMAR_IN_SNAPSHOT 1 /* at: from the snapshot's start */
+#define HEKTHUMAR_IN_CONTROL 2  /* at: from the control block's start */
+#define HEKTHUMAR_ZEROS 3       /* every byte is 0 */
+#define HEKTHUMAR_IN_POOL 4     /* at: from the pool's start */
+#define HEKTHUMAR_TAKE 5        /* at: in the pool, once `frame` is taken for a copy of the account's page */
+
+/* Holders, in hekthumar_view. */
+#define HEKTHUMAR_VIEW_NONE 0
+#define HEKTHUMAR_VIEW_SNAPSHOT 1
+#define HEKTHUMAR_VIEW_POOL 2
+
+typedef struct {
+    uint64_t address;
+    uint8_t number;
+} hekthumar_address;
+
+typedef struct {
+    uint32_t offset;
+    uint16_t index;
+    uint8_t type;
+    uint8_t number;
+} hekthumar_fields;
+
+typedef struct {
+    uint64_t value;
+    uint8_t number;
+} hekthumar_value;
+
+/* A field that the place does not name is 0. */
+typedef struct {
+    uint64_t at;
+    uint16_t frame;
+    uint16_t account;
+    uint16_t page;
+    uint8_t place;
+    uint8_t number;
+} hekthumar_place;
+
+/* The part of the holder that the view is: `length` bytes from `start` on. */
+typedef struct {
+    uint64_t start;
+    uint64_t length;
+    uint8_t holder;
+    uint8_t number;
+} hekthumar_view;
+
+/* The address of a type, an index and an offset below 2^24; else 3 and the address 0. */
+hekthumar_address hekthumar_join(uint8_t type, uint16_t index, uint32_t offset);
+
+/* The fields of an address below 2^48; else 3 and zero fields. */
+hekthumar_fields hekthumar_split(uint64_t address);
+
+/* Begins a program: writes the whole control block, leaves the pool. Refusals: 1, 4. */
+uint8_t hekthumar_begin(const uint8_t *snapshot, size_t snapshot_len, uint8_t *control, size_t control_len, const uint8_t *pool,
+                        size_t pool_len, uint16_t program);
+
+/* Where an access of this kind would go, and the number that it would give. Changes nothing. */
+hekthumar_place hekthumar_translate(const uint8_t *snapshot, size_t snapshot_len, const uint8_t *control, size_t control_len,
+                                    const uint8_t *pool, size_t pool_len, uint8_t kind, uint64_t address, size_t length);
+
+/* Loads 1, 2, 4 or 8 bytes as a little-endian number. */
+hekthumar_value hekthumar_load(const uint8_t *snapshot, size_t snapshot_len, const uint8_t *control, size_t control_len,
+                               const uint8_t *pool, size_t pool_len, uint64_t address, size_t size);
+
+/* Fetches 1, 2, 4 or 8 bytes of the current program. */
+hekthumar_value hekthumar_fetch(const uint8_t *snapshot, size_t snapshot_len, const uint8_t *control, size_t control_len,
+                                const uint8_t *pool, size_t pool_len, uint64_t address, size_t size);
+
+/* Stores the `size` lowest bytes of a value, 1, 2, 4 or 8. */
+uint8_t hekthumar_store(const uint8_t *snapshot, size_t snapshot_len, uint8_t *control, size_t control_len, uint8_t *pool,
+                        size_t pool_len, uint64_t address, size_t size, uint64_t value);
+
+/* Fills `out`, of 1 to 4,096 bytes. */
+uint8_t hekthumar_load_span(const uint8_t *snapshot, size_t snapshot_len, const uint8_t *control, size_t control_len,
+                            const uint8_t *pool, size_t pool_len, uint64_t address, uint8_t *out, size_t out_len);
+
+/* Stores all of `bytes`, 1 to 4,096 of them. */
+uint8_t hekthumar_store_span(const uint8_t *snapshot, size_t snapshot_len, uint8_t *control, size_t control_len, uint8_t *pool,
+                             size_t pool_len, uint64_t address, const uint8_t *bytes, size_t bytes_len);
+
+/* Calls a program with 256 bytes of registers. Refusals: 1, 2, 9, 4, 1, 4. */
+uint8_t hekthumar_call(const uint8_t *snapshot, size_t snapshot_len, uint8_t *control, size_t control_len, const uint8_t *pool,
+                       size_t pool_len, uint16_t program, const uint8_t *registers, size_t registers_len);
+
+/* Returns from the current invocation; its 256 bytes of registers go into `registers`. Refusals: 1, 2, 9. */
+uint8_t hekthumar_return(const uint8_t *snapshot, size_t snapshot_len, uint8_t *control, size_t control_len, const uint8_t *pool,
+                         size_t pool_len, uint8_t *registers, size_t registers_len);
+
+/* Resizes the stack or the heap of the current invocation. Refusals: 1, 2, 10, then 8, or 1 and 7. */
+uint8_t hekthumar_resize(const uint8_t *snapshot, size_t snapshot_len, uint8_t *control, size_t control_len, uint8_t *pool,
+                         size_t pool_len, uint8_t region, size_t pages);
+
+/* Writes the change list: 16 + 4,104 n bytes for n pages. Bytes of `out` past them stay. Refusals: 1, 11. */
+uint8_t hekthumar_change_list(const uint8_t *snapshot, size_t snapshot_len, const uint8_t *control, size_t control_len,
+                              const uint8_t *pool, size_t pool_len, uint8_t *out, size_t out_len);
+
+/* Applies a change list to an account's data. Refusal: 12. */
+uint8_t hekthumar_apply(const uint8_t *list, size_t list_len, uint16_t account, uint8_t *data, size_t data_len);
+
+/* Where the live bytes of an account's page lie now. Refusals: 1, 4, 1, 3. */
+hekthumar_view hekthumar_page_view(const uint8_t *snapshot, size_t snapshot_len, const uint8_t *control, size_t control_len,
+                                   const uint8_t *pool, size_t pool_len, uint16_t account, uint16_t page);
+
+#ifdef __cplusplus
+}
+#endif
+
+#endif
