@@ -1,0 +1,77 @@
+//! The buffers that the operations are timed on: a program, an account of 4 MiB that it owns, a transaction and four block contexts.
+
+use crate::library;
+use crate::plain_words::{put_u16, put_u32};
+
+pub const SLOTS_PAGES: usize = 1024;
+const PAGE: usize = 4096;
+const CODE: usize = 65_536;
+const ACCOUNTS: usize = 2;
+const CONTEXTS: usize = 4;
+const TRANSACTION: usize = 4096;
+
+/// The three buffers.
+#[derive(Clone)]
+pub struct World {
+    pub s: Vec<u8>,
+    pub c: Vec<u8>,
+    pub p: Vec<u8>,
+}
+
+/// The address of a byte of the slots.
+pub fn slot(offset: usize) -> u64 {
+    0x0300_0100_0000 + offset as u64
+}
+
+pub const STACK: u64 = 0x0500_00FF_F000;
+pub const HEAP: u64 = 0x0700_0000_0000;
+
+fn snapshot() -> Vec<u8> {
+    let context_at = 32 + 80 * ACCOUNTS;
+    let transaction_at = context_at + 120 * CONTEXTS;
+    let data_at = transaction_at + TRANSACTION;
+    let total = data_at + CODE + PAGE * SLOTS_PAGES;
+    let mut s: Vec<u8> = (0..total).map(|i| (i * 31 % 251) as u8).collect();
+    s[..context_at].fill(0);
+    let words = [ACCOUNTS, CONTEXTS, TRANSACTION, 32, context_at, transaction_at, data_at, total];
+    for (i, word) in words.into_iter().enumerate() {
+        put_u32(&mut s, 4 * i, word as u32);
+    }
+    for (i, (flags, length, data)) in [(1, CODE, data_at), (3, PAGE * SLOTS_PAGES, data_at + CODE)].into_iter().enumerate() {
+        let at = 32 + 80 * i;
+        put_u16(&mut s, at, flags);
+        put_u32(&mut s, at + 4, length as u32);
+        put_u32(&mut s, at + 8, data as u32);
+    }
+    s
+}
+
+impl World {
+    /// A begun program with so many frames.
+    pub fn begun(frames: usize) -> World {
+        let mut w = World { s: snapshot(), c: vec![0; 4504 + 8 * frames], p: vec![0; PAGE * frames] };
+        assert_eq!(library::begin(&w.s, &mut w.c, &w.p, 0), 0);
+        w
+    }
+
+    /// Takes copies of the slots' pages, in this order.
+    pub fn copied(mut self, pages: impl Iterator<Item = usize>) -> World {
+        for page in pages {
+            assert_eq!(library::store(&self.s, &mut self.c, &mut self.p, slot(PAGE * page), 8, page as u64), 0);
+        }
+        self
+    }
+
+    /// Grows the stack and the heap.
+    pub fn grown(mut self, pages: usize) -> World {
+        for region in [2, 3] {
+            assert_eq!(library::resize(&self.s, &mut self.c, &mut self.p, region, pages), 0);
+        }
+        self
+    }
+
+    /// The slots as the snapshot holds them.
+    pub fn slots(&self) -> Vec<u8> {
+        self.s[self.s.len() - PAGE * SLOTS_PAGES..].to_vec()
+    }
+}

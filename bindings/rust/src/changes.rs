@@ -1,0 +1,125 @@
+//! The list of changed pages.
+
+use crate::refusal::check;
+use crate::{sys, Refusal, PAGE};
+use std::fmt;
+
+const HEADER: usize = 16;
+const ENTRY: usize = 8;
+
+/// A well-formed list of changed account pages, in ascending order of account and page, each once.
+///
+/// It comes from [`Memory::change_list`](crate::Memory::change_list), or from bytes that were kept or sent, with [`ChangeList::parse`].
+///
+/// ```
+/// use hekthumar::{ChangeList, Refusal};
+///
+/// // One page: account 5, page 0, of which 3 bytes are live.
+/// let mut bytes = Vec::new();
+/// for word in [1_u32, 16, 24, 4120] {
+///     bytes.extend(word.to_le_bytes());
+/// }
+/// bytes.extend([5, 0, 0, 0, 3, 0, 0, 0]);
+/// bytes.extend([b"new".as_slice(), &[0; 4093]].concat());
+///
+/// let list = ChangeList::parse(&bytes)?;
+/// let change = list.entries().next().unwrap();
+/// assert_eq!((change.account, change.page, change.live), (5, 0, b"new".as_slice()));
+///
+/// let mut data = *b"old";
+/// list.apply(5, &mut data)?;
+/// assert_eq!(data, *b"new");
+/// assert_eq!(list.apply(5, &mut [0; 4]), Err(Refusal::BadChangeList));
+/// # Ok::<(), Refusal>(())
+/// ```
+#[derive(Clone, Copy, PartialEq, Eq)]
+pub struct ChangeList<'a> {
+    bytes: &'a [u8],
+    entries: &'a [[u8; ENTRY]],
+    pages: &'a [[u8; PAGE]],
+}
+
+/// A page of a [`ChangeList`].
+#[derive(Clone, Copy, Debug, PartialEq, Eq)]
+pub struct Change<'a> {
+    /// The account.
+    pub account: u16,
+    /// The page of the account's data.
+    pub page: u16,
+    /// The page's bytes, 1 to 4,096; fewer than 4,096 if the data ends in this page.
+    pub live: &'a [u8],
+}
+
+impl<'a> ChangeList<'a> {
+    /// Reads a list from the start of `bytes`, which may be longer. [`Refusal::BadChangeList`] if it is malformed.
+    pub fn parse(bytes: &'a [u8]) -> Result<ChangeList<'a>, Refusal> {
+        Self::split(bytes).filter(Self::entries_are_valid).ok_or(Refusal::BadChangeList)
+    }
+
+    /// The number of pages.
+    pub fn len(&self) -> usize {
+        self.entries.len()
+    }
+
+    /// Whether no page changed.
+    pub fn is_empty(&self) -> bool {
+        self.entries.is_empty()
+    }
+
+    /// The pages in order.
+    pub fn entries(&self) -> impl ExactSizeIterator<Item = Change<'a>> + 'a {
+        self.entries.iter().zip(self.pages).map(|(entry, bytes)| {
+            let (account, page, live) = decode(entry);
+            Change { account, page, live: &bytes[..live] }
+        })
+    }
+
+    /// The bytes of the list, without any that followed it.
+    pub fn as_bytes(&self) -> &'a [u8] {
+        self.bytes
+    }
+
+    /// Writes the changed pages of an account over its original data. [`Refusal::BadChangeList`] if a page of the account has more or
+    /// fewer live bytes than data of this length has there.
+    pub fn apply(&self, account: u16, data: &mut [u8]) -> Result<(), Refusal> {
+        apply(self.bytes, account, data)
+    }
+
+    /// The parts of the list that the header announces, if it is right and they are all there.
+    fn split(bytes: &'a [u8]) -> Option<ChangeList<'a>> {
+        let (header, _) = bytes.split_first_chunk::<HEADER>()?;
+        let words = header.as_chunks().0;
+        let [count, table_at, pages_at, total] = [0, 1, 2, 3].map(|i| u64::from(u32::from_le_bytes(words[i])));
+        // In 64 bits, where no count overflows.
+        if [table_at, pages_at, total] != [16, 16 + 8 * count, 16 + 4_104 * count] {
+            return None;
+        }
+        let bytes = bytes.get(..total as usize)?;
+        let (table, pages) = bytes[HEADER..].split_at(ENTRY * count as usize);
+        Some(ChangeList { bytes, entries: table.as_chunks().0, pages: pages.as_chunks().0 })
+    }
+
+    fn entries_are_valid(&self) -> bool {
+        let entries = || self.entries.iter().map(decode);
+        let keys = entries().map(|(account, page, _)| (account, page));
+        keys.is_sorted_by(|key, next| key < next) && entries().all(|(_, _, live)| (1..=PAGE).contains(&live))
+    }
+}
+
+impl fmt::Debug for ChangeList<'_> {
+    fn fmt(&self, f: &mut fmt::Formatter<'_>) -> fmt::Result {
+        f.debug_list().entries(self.entries()).finish()
+    }
+}
+
+/// Account, page and number of live bytes.
+fn decode(entry: &[u8; ENTRY]) -> (u16, u16, usize) {
+    let [a0, a1, p0, p1, live @ ..] = *entry;
+    (u16::from_le_bytes([a0, a1]), u16::from_le_bytes([p0, p1]), u32::from_le_bytes(live) as usize)
+}
+
+/// [`ChangeList::apply`] for a list that is still bytes. [`Refusal::BadChangeList`] also if the list is malformed.
+pub fn apply(list: &[u8], account: u16, data: &mut [u8]) -> Result<(), Refusal> {
+    // SAFETY: both pointers and lengths are slices borrowed for the call, and `data` is borrowed mutably.
+    check(unsafe { sys::hekthumar_apply(list.as_ptr(), list.len(), account, data.as_mut_ptr(), data.len()) })
+}

@@ -1,0 +1,197 @@
+//! The three lent buffers and the calls on them.
+
+use crate::refusal::check;
+use crate::{sys, Address, ChangeList, Kind, Place, Refusal, Region};
+use std::fmt;
+
+/// The 32 registers of an invocation, 8 bytes each.
+pub type Registers = [u8; 256];
+
+/// The memory of a virtual machine, in three buffers that the host lends.
+///
+/// All state is in the buffers. A host may take them back with [`Memory::into_buffers`] and lend them again later. Every call tests them
+/// first, and is refused with [`Refusal::Invalid`] if they are not valid.
+///
+/// An access is refused for the first of these reasons that holds: a buffer is not valid, the size is wrong, the address has more than
+/// 48 bits, there is no such segment or account, the account's entry is not valid, the offset is misaligned, the segment or account
+/// forbids it, it crosses a page, a byte is not present, the stack or heap page has no frame or belongs to a caller, no frame is free.
+///
+/// ```
+/// use hekthumar::*;
+///
+/// let mut builder = SnapshotBuilder::new();
+/// let program = builder.account(Account::program([1, 2, 3, 4]));
+/// let snapshot = builder.build().unwrap();
+/// let (mut control, mut pool) = (vec![0; control_len(2)], vec![0; pool_len(2)]);
+///
+/// let mut memory = Memory::new(&snapshot, &mut control, &mut pool);
+/// memory.begin(program)?;
+/// assert_eq!(memory.fetch(Address::program(0)?, 4)?, 0x0403_0201);
+///
+/// memory.resize(Region::Heap, 1)?;
+/// memory.store_u64(Address::heap(8)?, 42)?;
+/// assert_eq!(memory.load_u64(Address::heap(8)?), Ok(42));
+/// assert_eq!(memory.load_u64(Address::heap(4096)?), Err(Refusal::OutOfRange));
+/// # Ok::<(), Refusal>(())
+/// ```
+pub struct Memory<'a> {
+    snapshot: &'a [u8],
+    control: &'a mut [u8],
+    pool: &'a mut [u8],
+}
+
+/// Calls a C function with the three buffers and the arguments after them. The first argument is `as_ptr` if the function only reads
+/// the buffers, else `as_mut_ptr`.
+macro_rules! lend {
+    ($pointer:ident, $memory:ident, $function:ident($($argument:expr),*)) => {{
+        let Memory { snapshot, control, pool } = $memory;
+        let (snapshot_len, control_len, pool_len) = (snapshot.len(), control.len(), pool.len());
+        let (snapshot, control, pool) = (snapshot.as_ptr(), control.$pointer(), pool.$pointer());
+        // SAFETY: each pointer and length is a slice borrowed for the call; one that is written is borrowed mutably, so none overlaps it.
+        unsafe { sys::$function(snapshot, snapshot_len, control, control_len, pool, pool_len $(, $argument)*) }
+    }};
+}
+
+impl<'a> Memory<'a> {
+    /// Takes the buffers, untested. `control` and `pool` may hold anything before [`Memory::begin`].
+    pub fn new(snapshot: &'a [u8], control: &'a mut [u8], pool: &'a mut [u8]) -> Memory<'a> {
+        Memory { snapshot, control, pool }
+    }
+
+    /// Begins a program as the only invocation, without copies, stack or heap.
+    ///
+    /// Refused with [`Refusal::NoSegment`] if there is no such account.
+    pub fn begin(&mut self, program: u16) -> Result<(), Refusal> {
+        check(lend!(as_mut_ptr, self, hekthumar_begin(program)))
+    }
+
+    /// Where an access would go. Refused exactly as the access would be; changes nothing.
+    ///
+    /// ```
+    /// # use hekthumar::*;
+    /// # let mut builder = SnapshotBuilder::new();
+    /// # let program = builder.account(Account::program([1, 2, 3, 4]));
+    /// # let slots = builder.account(Account::data(program, vec![7; 6_000]).writable());
+    /// # let snapshot = builder.build().unwrap();
+    /// # let (mut control, mut pool) = (vec![0; control_len(2)], vec![0; pool_len(2)]);
+    /// # let mut memory = Memory::new(&snapshot, &mut control, &mut pool);
+    /// # memory.begin(program)?;
+    /// let address = Address::data(slots, 0x1004)?;
+    /// let place = memory.translate(Kind::Store, address, 1)?;
+    /// assert_eq!(place, Place::Take { at: 4, frame: 0, account: slots, page: 1 });
+    ///
+    /// memory.store_u8(address, 0x11)?;
+    /// assert_eq!(memory.translate(Kind::Store, address, 1)?, Place::Pool { at: 4 });
+    /// # Ok::<(), Refusal>(())
+    /// ```
+    pub fn translate(&self, kind: Kind, address: Address, length: usize) -> Result<Place, Refusal> {
+        Place::from_raw(lend!(as_ptr, self, hekthumar_translate(kind as u8, address.0, length)))
+    }
+
+    /// Loads 1, 2, 4 or 8 bytes as a little-endian number.
+    pub fn load(&self, address: Address, size: usize) -> Result<u64, Refusal> {
+        let sys::Value { value, number } = lend!(as_ptr, self, hekthumar_load(address.0, size));
+        check(number).map(|()| value)
+    }
+
+    /// Fetches 1, 2, 4 or 8 bytes of the current program as a little-endian number.
+    pub fn fetch(&self, address: Address, size: usize) -> Result<u64, Refusal> {
+        let sys::Value { value, number } = lend!(as_ptr, self, hekthumar_fetch(address.0, size));
+        check(number).map(|()| value)
+    }
+
+    /// Stores the lowest 1, 2, 4 or 8 bytes of a value.
+    pub fn store(&mut self, address: Address, size: usize, value: u64) -> Result<(), Refusal> {
+        check(lend!(as_mut_ptr, self, hekthumar_store(address.0, size, value)))
+    }
+
+    /// Fills `out`, 1 to 4,096 bytes within one page; needs no alignment.
+    pub fn load_span(&self, address: Address, out: &mut [u8]) -> Result<(), Refusal> {
+        check(lend!(as_ptr, self, hekthumar_load_span(address.0, out.as_mut_ptr(), out.len())))
+    }
+
+    /// Stores all of `bytes`, 1 to 4,096 of them within one page; needs no alignment.
+    pub fn store_span(&mut self, address: Address, bytes: &[u8]) -> Result<(), Refusal> {
+        check(lend!(as_mut_ptr, self, hekthumar_store_span(address.0, bytes.as_ptr(), bytes.len())))
+    }
+
+    /// Calls a program. The new invocation starts with its caller's stack and heap: it may load from all their pages, but store only to
+    /// pages that it adds. `registers` are kept for [`Memory::return_from`].
+    ///
+    /// Refused with [`Refusal::CallDepth`] at 16 live invocations; else as [`Memory::begin`].
+    pub fn call(&mut self, program: u16, registers: &Registers) -> Result<(), Refusal> {
+        check(lend!(as_mut_ptr, self, hekthumar_call(program, registers.as_ptr(), registers.len())))
+    }
+
+    /// Returns to the caller: fills in the registers kept by [`Memory::call`] and frees the stack and heap pages that the invocation
+    /// added.
+    ///
+    /// Refused with [`Refusal::CallDepth`] if there is no caller.
+    pub fn return_from(&mut self, registers: &mut Registers) -> Result<(), Refusal> {
+        check(lend!(as_mut_ptr, self, hekthumar_return(registers.as_mut_ptr(), registers.len())))
+    }
+
+    /// Gives the stack or heap this many pages. New pages are zeros.
+    ///
+    /// Refused with [`Refusal::RegionTooLarge`] above 4,096 pages, [`Refusal::OutOfFrames`] if fewer frames are free than growing needs,
+    /// and [`Refusal::NotPermitted`] if shrinking would free a caller's page.
+    pub fn resize(&mut self, region: Region, pages: usize) -> Result<(), Refusal> {
+        check(lend!(as_mut_ptr, self, hekthumar_resize(region as u8, pages)))
+    }
+
+    /// Writes the list of account pages stored to since [`Memory::begin`] to the start of `out`.
+    ///
+    /// Refused with [`Refusal::OutputTooShort`] if `out` has less than [`change_list_len`](crate::change_list_len) of the pages' number,
+    /// and with [`Refusal::Invalid`] if the table of frames contradicts itself or the snapshot.
+    pub fn change_list<'b>(&self, out: &'b mut [u8]) -> Result<ChangeList<'b>, Refusal> {
+        check(lend!(as_ptr, self, hekthumar_change_list(out.as_mut_ptr(), out.len())))?;
+        ChangeList::parse(out)
+    }
+
+    /// The bytes of an account's page as they stand, uncopied: a part of the snapshot, or of the pool once the page was stored to. The
+    /// last page is as short as the data.
+    ///
+    /// Refused with [`Refusal::NoSegment`] if there is no such account and [`Refusal::OutOfRange`] if the page has no bytes.
+    ///
+    /// ```
+    /// # use hekthumar::*;
+    /// # let mut builder = SnapshotBuilder::new();
+    /// # let program = builder.account(Account::program([1, 2, 3, 4]));
+    /// # let slots = builder.account(Account::data(program, vec![7; 6_000]).writable());
+    /// # let snapshot = builder.build().unwrap();
+    /// # let (mut control, mut pool) = (vec![0; control_len(2)], vec![0; pool_len(2)]);
+    /// # let mut memory = Memory::new(&snapshot, &mut control, &mut pool);
+    /// # memory.begin(program)?;
+    /// assert_eq!(memory.page_view(slots, 1)?, [7; 1_904]);
+    /// assert_eq!(memory.page_view(slots, 2), Err(Refusal::OutOfRange));
+    /// # Ok::<(), Refusal>(())
+    /// ```
+    pub fn page_view(&self, account: u16, page: u16) -> Result<&[u8], Refusal> {
+        let view = lend!(as_ptr, self, hekthumar_page_view(account, page));
+        check(view.number)?;
+        let holder = match view.holder {
+            1 => self.snapshot,
+            2 => &*self.pool,
+            other => unreachable!("the library has no holder {other}"),
+        };
+        Ok(&holder[view.start as usize..][..view.length as usize])
+    }
+
+    /// The three buffers: snapshot, control, pool.
+    pub fn buffers(&self) -> (&[u8], &[u8], &[u8]) {
+        (self.snapshot, self.control, self.pool)
+    }
+
+    /// Gives the three buffers back: snapshot, control, pool.
+    pub fn into_buffers(self) -> (&'a [u8], &'a mut [u8], &'a mut [u8]) {
+        (self.snapshot, self.control, self.pool)
+    }
+}
+
+/// The lengths only: the buffers are too long to be read.
+impl fmt::Debug for Memory<'_> {
+    fn fmt(&self, f: &mut fmt::Formatter<'_>) -> fmt::Result {
+        let (snapshot, control, pool) = self.buffers();
+        write!(f, "Memory {{ snapshot: {} bytes, control: {} bytes, pool: {} bytes }}", snapshot.len(), control.len(), pool.len())
+    }
+}

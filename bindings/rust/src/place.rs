@@ -1,0 +1,78 @@
+//! What a translation takes and answers.
+
+use crate::refusal::check;
+use crate::{sys, Refusal};
+
+/// The kind of an access.
+#[repr(u8)]
+#[derive(Clone, Copy, Debug, PartialEq, Eq, Hash)]
+pub enum Kind {
+    /// A load of 1, 2, 4 or 8 bytes.
+    Load = 0,
+    /// A store of 1, 2, 4 or 8 bytes.
+    Store = 1,
+    /// A fetch of 1, 2, 4 or 8 bytes of the current program.
+    Fetch = 2,
+    /// A load of 1 to 4,096 bytes within one page.
+    LoadSpan = 3,
+    /// A store of 1 to 4,096 bytes within one page.
+    StoreSpan = 4,
+}
+
+/// A region whose size the program chooses.
+#[repr(u8)]
+#[derive(Clone, Copy, Debug, PartialEq, Eq, Hash)]
+pub enum Region {
+    /// The stack.
+    Stack = 2,
+    /// The heap.
+    Heap = 3,
+}
+
+/// Where the bytes of an access lie.
+#[derive(Clone, Copy, Debug, PartialEq, Eq, Hash)]
+pub enum Place {
+    /// In the snapshot.
+    Snapshot {
+        /// First byte, from the snapshot's start.
+        at: usize,
+    },
+    /// In the control buffer.
+    Control {
+        /// First byte, from the control buffer's start.
+        at: usize,
+    },
+    /// Nowhere: every byte reads as 0.
+    Zeros,
+    /// In the pool.
+    Pool {
+        /// First byte, from the pool's start.
+        at: usize,
+    },
+    /// In a frame of the pool that a store would first take for a copy of the page.
+    Take {
+        /// First byte once the copy is made, from the pool's start.
+        at: usize,
+        /// The frame that would be taken.
+        frame: u16,
+        /// The account whose page would be copied.
+        account: u16,
+        /// The page of that account's data.
+        page: u16,
+    },
+}
+
+impl Place {
+    pub(crate) fn from_raw(raw: sys::Place) -> Result<Place, Refusal> {
+        check(raw.number)?;
+        let at = raw.at as usize;
+        Ok(match raw.place {
+            1 => Place::Snapshot { at },
+            2 => Place::Control { at },
+            3 => Place::Zeros,
+            4 => Place::Pool { at },
+            5 => Place::Take { at, frame: raw.frame, account: raw.account, page: raw.page },
+            other => unreachable!("the library has no place {other}"),
+        })
+    }
+}

@@ -1,0 +1,181 @@
+//! The C interface as it is: `include/hekthumar.h` in Rust. Every function accepts every input as long as each pointer and length
+//! is a buffer that may be read (or written, where it is `*mut`), and no buffer that is written overlaps another.
+
+/// What [`hekthumar_join`] answers.
+#[repr(C)]
+#[derive(Clone, Copy, Debug, PartialEq, Eq)]
+pub struct Joined {
+    pub address: u64,
+    pub number: u8,
+}
+
+/// What [`hekthumar_split`] answers.
+#[repr(C)]
+#[derive(Clone, Copy, Debug, PartialEq, Eq)]
+pub struct Fields {
+    pub offset: u32,
+    pub index: u16,
+    pub segment: u8,
+    pub number: u8,
+}
+
+/// What a load or a fetch answers.
+#[repr(C)]
+#[derive(Clone, Copy, Debug, PartialEq, Eq)]
+pub struct Value {
+    pub value: u64,
+    pub number: u8,
+}
+
+/// What [`hekthumar_translate`] answers.
+#[repr(C)]
+#[derive(Clone, Copy, Debug, PartialEq, Eq)]
+pub struct Place {
+    pub at: u64,
+    pub frame: u16,
+    pub account: u16,
+    pub page: u16,
+    pub place: u8,
+    pub number: u8,
+}
+
+/// What [`hekthumar_page_view`] answers.
+#[repr(C)]
+#[derive(Clone, Copy, Debug, PartialEq, Eq)]
+pub struct View {
+    pub start: u64,
+    pub length: u64,
+    pub holder: u8,
+    pub number: u8,
+}
+
+#[link(name = "hekthumar", kind = "static")]
+extern "C" {
+    pub fn hekthumar_join(segment: u8, index: u16, offset: u32) -> Joined;
+    pub fn hekthumar_split(address: u64) -> Fields;
+    pub fn hekthumar_begin(
+        snapshot: *const u8,
+        snapshot_len: usize,
+        control: *mut u8,
+        control_len: usize,
+        pool: *const u8,
+        pool_len: usize,
+        program: u16,
+    ) -> u8;
+    pub fn hekthumar_translate(
+        snapshot: *const u8,
+        snapshot_len: usize,
+        control: *const u8,
+        control_len: usize,
+        pool: *const u8,
+        pool_len: usize,
+        kind: u8,
+        address: u64,
+        length: usize,
+    ) -> Place;
+    pub fn hekthumar_load(
+        snapshot: *const u8,
+        snapshot_len: usize,
+        control: *const u8,
+        control_len: usize,
+        pool: *const u8,
+        pool_len: usize,
+        address: u64,
+        size: usize,
+    ) -> Value;
+    pub fn hekthumar_fetch(
+        snapshot: *const u8,
+        snapshot_len: usize,
+        control: *const u8,
+        control_len: usize,
+        pool: *const u8,
+        pool_len: usize,
+        address: u64,
+        size: usize,
+    ) -> Value;
+    pub fn hekthumar_store(
+        snapshot: *const u8,
+        snapshot_len: usize,
+        control: *mut u8,
+        control_len: usize,
+        pool: *mut u8,
+        pool_len: usize,
+        address: u64,
+        size: usize,
+        value: u64,
+    ) -> u8;
+    pub fn hekthumar_load_span(
+        snapshot: *const u8,
+        snapshot_len: usize,
+        control: *const u8,
+        control_len: usize,
+        pool: *const u8,
+        pool_len: usize,
+        address: u64,
+        out: *mut u8,
+        out_len: usize,
+    ) -> u8;
+    pub fn hekthumar_store_span(
+        snapshot: *const u8,
+        snapshot_len: usize,
+        control: *mut u8,
+        control_len: usize,
+        pool: *mut u8,
+        pool_len: usize,
+        address: u64,
+        bytes: *const u8,
+        bytes_len: usize,
+    ) -> u8;
+    pub fn hekthumar_call(
+        snapshot: *const u8,
+        snapshot_len: usize,
+        control: *mut u8,
+        control_len: usize,
+        pool: *const u8,
+        pool_len: usize,
+        program: u16,
+        registers: *const u8,
+        registers_len: usize,
+    ) -> u8;
+    pub fn hekthumar_return(
+        snapshot: *const u8,
+        snapshot_len: usize,
+        control: *mut u8,
+        control_len: usize,
+        pool: *const u8,
+        pool_len: usize,
+        registers: *mut u8,
+        registers_len: usize,
+    ) -> u8;
+    pub fn hekthumar_resize(
+        snapshot: *const u8,
+        snapshot_len: usize,
+        control: *mut u8,
+        control_len: usize,
+        pool: *mut u8,
+        pool_len: usize,
+        region: u8,
+        pages: usize,
+    ) -> u8;
+    pub fn hekthumar_change_list(
+        snapshot: *const u8,
+        snapshot_len: usize,
+        control: *const u8,
+        control_len: usize,
+        pool: *const u8,
+        pool_len: usize,
+        out: *mut u8,
+        out_len: usize,
+    ) -> u8;
+    pub fn hekthumar_apply(list: *const u8, list_len: usize, account: u16, data: *mut u8, data_len: usize) -> u8;
+    pub fn hekthumar_page_view(
+        snapshot: *const u8,
+        snapshot_len: usize,
+        control: *const u8,
+        control_len: usize,
+        pool: *const u8,
+        pool_len: usize,
+        account: u16,
+        page: u16,
+    ) -> View;
+}

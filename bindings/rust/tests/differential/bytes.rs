@@ -1,0 +1,59 @@
+//! Little-endian numbers in byte buffers, and the fixed places of document 01's buffers.
+
+pub const PAGE: usize = 4096;
+pub const MAX_DATA: usize = 1 << 24;
+/// Pages of a whole region: 2^24 bytes.
+pub const MAX_PAGES: usize = 4096;
+
+pub const SNAPSHOT_HEADER: usize = 32;
+pub const ACCOUNT_ENTRY: usize = 80;
+pub const METADATA: usize = 64;
+pub const CONTEXT: usize = 120;
+
+pub const RECORDS_AT: usize = 16;
+pub const RECORD: usize = 264;
+pub const REGISTERS: usize = 256;
+pub const TABLE_AT: usize = 4504;
+pub const FRAME_ENTRY: usize = 8;
+pub const MAX_FRAMES: usize = 1024;
+pub const MAX_LIVE: usize = 16;
+
+pub const FREE: u8 = 0;
+pub const COPY: u8 = 1;
+pub const STACK: u8 = 2;
+pub const HEAP: u8 = 3;
+
+pub const LIST_HEADER: usize = 16;
+pub const LIST_ENTRY: usize = 8;
+
+pub fn number(bytes: &[u8]) -> u64 {
+    bytes.iter().rev().fold(0, |value, &byte| value << 8 | u64::from(byte))
+}
+
+pub fn u16_at(bytes: &[u8], at: usize) -> u16 {
+    number(&bytes[at..at + 2]) as u16
+}
+
+pub fn u32_at(bytes: &[u8], at: usize) -> u32 {
+    number(&bytes[at..at + 4]) as u32
+}
+
+pub fn put_u16(bytes: &mut [u8], at: usize, value: u16) {
+    bytes[at..at + 2].copy_from_slice(&value.to_le_bytes());
+}
+
+pub fn put_u32(bytes: &mut [u8], at: usize, value: u32) {
+    bytes[at..at + 4].copy_from_slice(&value.to_le_bytes());
+}
+
+/// The bytes from `at` on, zeros where the buffer has ended. Damaged buffers are looked at by this.
+pub fn part_or_zeros(bytes: &[u8], at: usize, length: usize) -> Vec<u8> {
+    let mut part: Vec<u8> = bytes.iter().skip(at).take(length).copied().collect();
+    part.resize(length, 0);
+    part
+}
+
+/// Live bytes of a page: min(4,096, length - 4,096 * page), none where the page begins at or past the end.
+pub fn live_bytes(length: usize, page: u16) -> usize {
+    length.saturating_sub(PAGE * usize::from(page)).min(PAGE)
+}

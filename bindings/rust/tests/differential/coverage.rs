@@ -1,0 +1,102 @@
+//! Which refusals each kind of call can give by document 01, and which were seen.
+
+use std::collections::BTreeMap;
+
+use crate::interface::{Answer, Call, KINDS, NAMES};
+use crate::model::Why;
+
+pub const NUMBERS: usize = 13;
+
+/// "1 for headers, buffer lengths and frame D"
+const FIRST: [Why; 4] = [Why::Snapshot, Why::Control, Why::Pool, Why::Record];
+/// What every access asks between the first 1 and permission. An access of a single value is never 6, since it is aligned; a span is
+/// never 5.
+const REACH: [Why; 6] = [Why::Length, Why::UpperBits, Why::NoSegment, Why::NoAccount, Why::Entry, Why::NotPresent];
+/// What a store asks beyond a load.
+const STORE: [Why; 3] = [Why::Forbidden, Why::Tag, Why::NoFreeFrame];
+const PROGRAM: [Why; 3] = [Why::NoAccount, Why::Entry, Why::AbsentProgram];
+
+/// The refusals that document 01 names for each kind of call, in the order of `NAMES`. Loads are allowed in every row, so they give no
+/// 7 and no 8. A fetch gives 7 outside 0/3, so it never asks for the frame of a stack or heap page.
+fn possible(kind: usize) -> Vec<Why> {
+    use Why::*;
+    match NAMES[kind] {
+        "join" => vec![WideOffset],
+        "split" => vec![UpperBits],
+        "begin" => [&[Snapshot, Control, Pool][..], &PROGRAM].concat(),
+        "translate" => [&FIRST[..], &REACH, &STORE, &[UnknownKind, Misaligned, Crossing, Unclaimed]].concat(),
+        "load" => [&FIRST[..], &REACH, &[Misaligned, Unclaimed]].concat(),
+        "fetch" => [&FIRST[..], &REACH, &[Misaligned, Forbidden]].concat(),
+        "store" => [&FIRST[..], &REACH, &STORE, &[Misaligned, Unclaimed]].concat(),
+        "load_span" => [&FIRST[..], &REACH, &[Crossing, Unclaimed]].concat(),
+        "store_span" => [&FIRST[..], &REACH, &STORE, &[Crossing, Unclaimed]].concat(),
+        "call" => [&FIRST[..], &PROGRAM, &[Length, Depth]].concat(),
+        "return" => [&FIRST[..], &[Length, Depth]].concat(),
+        "resize" => [&FIRST[..], &[UnknownKind, TooManyPages, NoFreeFrame, Unclaimed, Tag]].concat(),
+        "change_list" => [&FIRST[..], &[CopyOfNoAccount, CopyOfInvalidEntry, CopyWithoutLiveBytes, CopiedTwice, ShortOutput]].concat(),
+        "apply" => vec![ListLayout, ListOrder, ListLiveCount, ListLiveOfData],
+        "page_view" => [&FIRST[..], &[NoAccount, Entry, NoLiveBytes]].concat(),
+        name => unreachable!("{name} is no call"),
+    }
+}
+
+/// How often each kind of call gave each number, and for which reason by the model.
+#[derive(Default)]
+pub struct Coverage {
+    numbers: [[u64; NUMBERS]; KINDS],
+    reasons: BTreeMap<(usize, Why), u64>,
+    /// How often a translation answered each place.
+    places: [u64; 6],
+    pub histories: u64,
+    pub calls: u64,
+}
+
+impl Coverage {
+    pub fn record(&mut self, call: &Call, answer: &Answer, why: Option<Why>) {
+        self.calls += 1;
+        self.numbers[call.kind()][usize::from(answer.number())] += 1;
+        if let Some(why) = why {
+            *self.reasons.entry((call.kind(), why)).or_default() += 1;
+        }
+        if let Answer::Place(place) = answer {
+            self.places[usize::from(place.place)] += 1;
+        }
+    }
+
+    /// What document 01 names and was never seen, and what was seen and document 01 does not name.
+    pub fn faults(&self) -> Vec<String> {
+        let mut faults = vec![];
+        for (kind, name) in NAMES.iter().enumerate() {
+            let possible = possible(kind);
+            for why in possible.iter().filter(|&&why| !self.reasons.contains_key(&(kind, why))) {
+                faults.push(format!("{name} never gave {} for {why:?}", why.number()));
+            }
+            for number in 0..NUMBERS {
+                let named = number == 0 || possible.iter().any(|why| usize::from(why.number()) == number);
+                if named != (self.numbers[kind][number] > 0) {
+                    let seen = if named { "never gave" } else { "gave" };
+                    faults.push(format!("{name} {seen} {number}"));
+                }
+            }
+        }
+        let unseen = |place: &usize| self.places[*place] == 0;
+        faults.extend((0..6).filter(unseen).map(|place| format!("translate never answered place {place}")));
+        faults
+    }
+
+    pub fn print(&self) {
+        println!("{} histories, {} calls", self.histories, self.calls);
+        let head: String = (0..NUMBERS).map(|number| format!("{number:>8}")).collect();
+        println!("{:<12}{head}", "");
+        for (name, counts) in NAMES.iter().zip(&self.numbers) {
+            let cell = |&count: &u64| if count == 0 { format!("{:>8}", ".") } else { format!("{count:>8}") };
+            println!("{name:<12}{}", counts.iter().map(cell).collect::<String>());
+        }
+        println!("places of translate, 0 to 5: {:?}", self.places);
+        for (kind, name) in NAMES.iter().enumerate() {
+            let seen = self.reasons.iter().filter(|((of, _), _)| *of == kind);
+            let text: Vec<String> = seen.map(|((_, why), count)| format!("{why:?} {count}")).collect();
+            println!("{name}: {}", text.join(", "));
+        }
+    }
+}

@@ -1,0 +1,139 @@
+//! One history: the same calls given to the library and to the model, all answers and buffers compared after each.
+
+use crate::calls::{self, Weights};
+use crate::coverage::Coverage;
+use crate::damage;
+use crate::interface::{Answer, Call, World};
+use crate::library;
+use crate::model::{self, Bug};
+use crate::random::Random;
+use crate::replay::{Replay, Slip};
+use crate::world::{self, Size};
+
+/// Which history, and which planted mistake.
+#[derive(Clone, Copy)]
+pub struct Plan {
+    pub seed: u64,
+    pub number: u64,
+    pub size: Size,
+    /// Buffers are damaged between calls. Then the premises of the replay do not hold, and only the model is compared.
+    pub damaged: bool,
+    pub bug: Option<Bug>,
+    pub slip: Option<Slip>,
+}
+
+impl Plan {
+    /// History `number` of a seed: every second one is damaged, and few start from a wide world.
+    pub fn new(seed: u64, number: u64) -> Plan {
+        let size = match number % 64 {
+            30 | 31 => Size::Wide,
+            63 => Size::TooWide,
+            _ => Size::Small,
+        };
+        Plan { seed, number, size, damaged: number % 2 == 1, bug: None, slip: None }
+    }
+}
+
+struct Run<'a> {
+    plan: Plan,
+    random: Random,
+    library: World,
+    model: World,
+    replay: Option<Replay>,
+    coverage: &'a mut Coverage,
+    calls: u64,
+}
+
+/// Runs a history; the error says all about the first difference.
+pub fn run(plan: Plan, coverage: &mut Coverage) -> Result<(), String> {
+    let random = Random::of_history(plan.seed, plan.number);
+    let world = world::generate(&random, plan.size);
+    let replay = (!plan.damaged).then(|| Replay::new(&world.snapshot, plan.slip));
+    coverage.histories += 1;
+    let mut run = Run { plan, random, library: world.clone(), model: world, replay, coverage, calls: 0 };
+    run.whole()
+}
+
+impl Run<'_> {
+    fn whole(&mut self) -> Result<(), String> {
+        let weights = Weights::new(&self.random);
+        // Before the first begin the control block holds anything.
+        for _ in 0..self.random.choose(&[0, 0, 1, 6]) {
+            let call = calls::generate(&self.random, &self.library, &weights);
+            self.step(call)?;
+        }
+        self.step(calls::good_begin(&self.library))?;
+        for _ in 0..40 + self.random.below(60) {
+            if self.plan.damaged && self.random.chance(35) {
+                self.damaged_step(&weights)?;
+                continue;
+            }
+            let call = calls::generate(&self.random, &self.library, &weights);
+            self.step(call)?;
+        }
+        let end = self.replay.as_ref().map_or(Ok(()), |replay| replay.check_end(&self.library));
+        end.map_err(|text| self.place(&text))
+    }
+
+    fn damaged_step(&mut self, weights: &Weights) -> Result<(), String> {
+        let passing = self.random.chance(50);
+        let before = passing.then(|| self.library.clone());
+        // The call is chosen by what the buffers said before passing damage, so that it would have got far without it.
+        let early = passing.then(|| calls::generate(&self.random, &self.library, weights));
+        let damage = if passing { damage::passing } else { damage::lasting };
+        damage(&self.random, &mut self.library);
+        self.model.clone_from(&self.library);
+        let call = early.unwrap_or_else(|| calls::generate(&self.random, &self.library, weights));
+        self.step(call)?;
+        if let Some(before) = before {
+            self.model.clone_from(&before);
+            self.library = before;
+        }
+        Ok(())
+    }
+
+    fn step(&mut self, call: Call) -> Result<(), String> {
+        let (mut by_library, mut by_model) = (call.clone(), call.clone());
+        let given = library::run(&mut self.library, &mut by_library);
+        let (expected, why) = model::run(&mut self.model, &mut by_model, self.plan.bug);
+        let difference = buffers(&self.library, &by_library).first_difference(buffers(&self.model, &by_model));
+        if given != expected || difference.is_some() {
+            let bytes = difference.unwrap_or("no byte of a buffer differs".into());
+            let answers = format!("library: {given:?}\nmodel:   {expected:?} ({why:?})");
+            return Err(self.place(&format!("{}\n{answers}\n{bytes}", call.describe())));
+        }
+        self.coverage.record(&call, &given, why);
+        let replayed = self.replayed(&by_library, &given);
+        self.calls += 1;
+        replayed.map_err(|text| self.place(&format!("{}\n{text}", call.describe())))
+    }
+
+    fn replayed(&mut self, call: &Call, answer: &Answer) -> Result<(), String> {
+        let Some(replay) = &mut self.replay else { return Ok(()) };
+        replay.observe(call, answer)?;
+        replay.check_frames(&self.library)
+    }
+
+    fn place(&self, text: &str) -> String {
+        let Plan { seed, number, size, .. } = self.plan;
+        format!("seed {seed:#x}, history {number} ({size:?}), call {}:\n{text}", self.calls)
+    }
+}
+
+/// Named buffers after a call.
+struct Buffers<'a>(Vec<(&'static str, &'a [u8])>);
+
+fn buffers<'a>(world: &'a World, call: &'a Call) -> Buffers<'a> {
+    let mut buffers: Vec<(&'static str, &[u8])> = vec![("snapshot", &world.snapshot), ("control", &world.control), ("pool", &world.pool)];
+    buffers.extend(call.lent());
+    Buffers(buffers)
+}
+
+impl Buffers<'_> {
+    fn first_difference(&self, other: Buffers) -> Option<String> {
+        let (name, ours, theirs) =
+            self.0.iter().zip(&other.0).find(|(ours, theirs)| ours.1 != theirs.1).map(|(ours, theirs)| (ours.0, ours.1, theirs.1))?;
+        let at = ours.iter().zip(theirs).position(|(a, b)| a != b).unwrap_or(ours.len().min(theirs.len()));
+        Some(format!("first difference in {name} at byte {at:#x}: library {:02x?}, model {:02x?}", ours.get(at), theirs.get(at)))
+    }
+}

@@ -1,0 +1,137 @@
+//! The calls of the C interface as values: what is lent, what is asked, what is answered.
+
+use std::fmt;
+
+use hekthumar::sys::{Fields, Joined, Place, Value, View};
+
+/// The three lent buffers.
+#[derive(Clone, PartialEq, Eq)]
+pub struct World {
+    pub snapshot: Vec<u8>,
+    pub control: Vec<u8>,
+    pub pool: Vec<u8>,
+}
+
+/// A buffer lent with a single call.
+#[derive(Clone, PartialEq, Eq)]
+pub struct Bytes(pub Vec<u8>);
+
+impl fmt::Debug for Bytes {
+    fn fmt(&self, formatter: &mut fmt::Formatter) -> fmt::Result {
+        let shown = self.0.len().min(24);
+        let rest = if shown < self.0.len() { " .." } else { "" };
+        write!(formatter, "{} bytes {:02x?}{rest}", self.0.len(), &self.0[..shown])
+    }
+}
+
+#[derive(Clone, Debug, PartialEq, Eq)]
+pub enum Call {
+    Join { segment: u8, index: u16, offset: u32 },
+    Split { address: u64 },
+    Begin { program: u16 },
+    Translate { kind: u8, address: u64, length: usize },
+    Load { address: u64, size: usize },
+    Fetch { address: u64, size: usize },
+    Store { address: u64, size: usize, value: u64 },
+    LoadSpan { address: u64, out: Bytes },
+    StoreSpan { address: u64, bytes: Bytes },
+    Invoke { program: u16, registers: Bytes },
+    Return { registers: Bytes },
+    Resize { region: u8, pages: usize },
+    ChangeList { out: Bytes },
+    Apply { list: Bytes, account: u16, data: Bytes },
+    PageView { account: u16, page: u16 },
+}
+
+pub const KINDS: usize = 15;
+pub const NAMES: [&str; KINDS] = [
+    "join",
+    "split",
+    "begin",
+    "translate",
+    "load",
+    "fetch",
+    "store",
+    "load_span",
+    "store_span",
+    "call",
+    "return",
+    "resize",
+    "change_list",
+    "apply",
+    "page_view",
+];
+
+impl Call {
+    /// The call's place in `NAMES`.
+    pub fn kind(&self) -> usize {
+        match self {
+            Call::Join { .. } => 0,
+            Call::Split { .. } => 1,
+            Call::Begin { .. } => 2,
+            Call::Translate { .. } => 3,
+            Call::Load { .. } => 4,
+            Call::Fetch { .. } => 5,
+            Call::Store { .. } => 6,
+            Call::LoadSpan { .. } => 7,
+            Call::StoreSpan { .. } => 8,
+            Call::Invoke { .. } => 9,
+            Call::Return { .. } => 10,
+            Call::Resize { .. } => 11,
+            Call::ChangeList { .. } => 12,
+            Call::Apply { .. } => 13,
+            Call::PageView { .. } => 14,
+        }
+    }
+
+    /// The buffers lent with this call alone, by name; also those that are read only.
+    pub fn lent(&self) -> Vec<(&'static str, &[u8])> {
+        match self {
+            Call::LoadSpan { out, .. } | Call::ChangeList { out } => vec![("out", &out.0)],
+            Call::StoreSpan { bytes, .. } => vec![("bytes", &bytes.0)],
+            Call::Invoke { registers, .. } | Call::Return { registers } => vec![("registers", &registers.0)],
+            Call::Apply { list, data, .. } => vec![("list", &list.0), ("data", &data.0)],
+            _ => vec![],
+        }
+    }
+
+    /// The address in hexadecimal, its three fields apart.
+    pub fn describe(&self) -> String {
+        let address = match self {
+            Call::Split { address }
+            | Call::Translate { address, .. }
+            | Call::Load { address, .. }
+            | Call::Fetch { address, .. }
+            | Call::Store { address, .. }
+            | Call::LoadSpan { address, .. }
+            | Call::StoreSpan { address, .. } => *address,
+            _ => return format!("{self:?}"),
+        };
+        let (upper, segment, index, offset) = (address >> 48, address >> 40 & 0xFF, address >> 24 & 0xFFFF, address & 0xFF_FFFF);
+        format!("{self:?}, address {address:#014x}: upper {upper:#x}, type {segment}, index {index}, offset {offset:#x}")
+    }
+}
+
+/// A whole answer. The numbers of a refusal and of success are in each.
+#[derive(Clone, Copy, Debug, PartialEq, Eq)]
+pub enum Answer {
+    Number(u8),
+    Joined(Joined),
+    Fields(Fields),
+    Value(Value),
+    Place(Place),
+    View(View),
+}
+
+impl Answer {
+    pub fn number(&self) -> u8 {
+        match self {
+            Answer::Number(number) => *number,
+            Answer::Joined(joined) => joined.number,
+            Answer::Fields(fields) => fields.number,
+            Answer::Value(value) => value.number,
+            Answer::Place(place) => place.number,
+            Answer::View(view) => view.number,
+        }
+    }
+}

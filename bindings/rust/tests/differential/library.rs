@@ -1,0 +1,59 @@
+//! The library behind its C interface, given the same calls as the model.
+
+use hekthumar::sys::*;
+
+use crate::interface::{Answer, Call, World};
+
+/// An empty buffer is lent as a null pointer with length 0.
+fn read(bytes: &[u8]) -> (*const u8, usize) {
+    (if bytes.is_empty() { std::ptr::null() } else { bytes.as_ptr() }, bytes.len())
+}
+
+fn write(bytes: &mut [u8]) -> (*mut u8, usize) {
+    (if bytes.is_empty() { std::ptr::null_mut() } else { bytes.as_mut_ptr() }, bytes.len())
+}
+
+/// One call of the library on buffers that it alone holds.
+pub fn run(world: &mut World, call: &mut Call) -> Answer {
+    let (s, sl) = read(&world.snapshot);
+    let (c, cl) = write(&mut world.control);
+    let (p, pl) = write(&mut world.pool);
+    // SAFETY: every pointer and length is a whole vector or an empty buffer, and no two of them overlap.
+    unsafe {
+        match call {
+            Call::Join { segment, index, offset } => Answer::Joined(hekthumar_join(*segment, *index, *offset)),
+            Call::Split { address } => Answer::Fields(hekthumar_split(*address)),
+            Call::Begin { program } => Answer::Number(hekthumar_begin(s, sl, c, cl, p, pl, *program)),
+            Call::Translate { kind, address, length } => Answer::Place(hekthumar_translate(s, sl, c, cl, p, pl, *kind, *address, *length)),
+            Call::Load { address, size } => Answer::Value(hekthumar_load(s, sl, c, cl, p, pl, *address, *size)),
+            Call::Fetch { address, size } => Answer::Value(hekthumar_fetch(s, sl, c, cl, p, pl, *address, *size)),
+            Call::Store { address, size, value } => Answer::Number(hekthumar_store(s, sl, c, cl, p, pl, *address, *size, *value)),
+            Call::LoadSpan { address, out } => {
+                let (out, length) = write(&mut out.0);
+                Answer::Number(hekthumar_load_span(s, sl, c, cl, p, pl, *address, out, length))
+            }
+            Call::StoreSpan { address, bytes } => {
+                let (bytes, length) = read(&bytes.0);
+                Answer::Number(hekthumar_store_span(s, sl, c, cl, p, pl, *address, bytes, length))
+            }
+            Call::Invoke { program, registers } => {
+                let (registers, length) = read(&registers.0);
+                Answer::Number(hekthumar_call(s, sl, c, cl, p, pl, *program, registers, length))
+            }
+            Call::Return { registers } => {
+                let (registers, length) = write(&mut registers.0);
+                Answer::Number(hekthumar_return(s, sl, c, cl, p, pl, registers, length))
+            }
+            Call::Resize { region, pages } => Answer::Number(hekthumar_resize(s, sl, c, cl, p, pl, *region, *pages)),
+            Call::ChangeList { out } => {
+                let (out, length) = write(&mut out.0);
+                Answer::Number(hekthumar_change_list(s, sl, c, cl, p, pl, out, length))
+            }
+            Call::Apply { list, account, data } => {
+                let ((list, list_length), (data, length)) = (read(&list.0), write(&mut data.0));
+                Answer::Number(hekthumar_apply(list, list_length, *account, data, length))
+            }
+            Call::PageView { account, page } => Answer::View(hekthumar_page_view(s, sl, c, cl, p, pl, *account, *page)),
+        }
+    }
+}

@@ -1,0 +1,100 @@
+//! Mistakes that the model can be given, each of which the histories must tell apart from the library.
+
+macro_rules! bugs {
+    ($($(#[$text:meta])* $name:ident,)*) => {
+        #[derive(Clone, Copy, Debug, PartialEq, Eq)]
+        pub enum Bug {
+            $($(#[$text])* $name,)*
+        }
+
+        impl Bug {
+            pub const ALL: &'static [Bug] = &[$(Bug::$name,)*];
+        }
+    };
+}
+
+bugs! {
+    // The five of "Mistakes we have seen".
+    SecondStoreCopiesAgain,
+    LoadReadsOriginal,
+    OwnerForgotten,
+    GrownPageNotZeroed,
+    ShortPageCopiedPastEnd,
+
+    // The order of an access.
+    PermissionBeforeAlignment,
+    CrossingBeforePermission,
+    PresenceBeforeCrossing,
+    UpperBitsIgnored,
+    IndexTruncatedToByte,
+    EntryUntested,
+    /// Every size asks an offset divisible by 8.
+    AlignmentOfEight,
+    SpansAligned,
+    SpanOf4097,
+    PresenceOfFirstByteOnly,
+    NoFrameBeforePresence,
+
+    // Segments.
+    ContextRemainderUntested,
+    StackFromBottom,
+    FetchInAccountData,
+    AbsentMetadataShown,
+    ProgramReadsCopy,
+    OwnerOfFirstInvocation,
+    ShadowWithoutRecordZero,
+
+    // Entries of accounts.
+    EmptyDataAnywhere,
+    FourthWordIgnored,
+    AbsentEntryTested,
+
+    // Copies.
+    CopyTakesHighestFrame,
+    UnknownUseIsFree,
+    HighestClaimWins,
+    CopyClaimNeedsTagZero,
+    StoreOfEightTruncated,
+    StoreAsksProgramEntry,
+    TagAskedOfCopies,
+    FreeingKeepsLastWord,
+    TakingKeepsLastWord,
+
+    // Invocations and regions.
+    TagMustExceedDepth,
+    BeginKeepsFrameTable,
+    BeginAsksControlHeader,
+    BeginOfAbsentProgram,
+    CallDropsSizes,
+    CallKeepsPadding,
+    CallAtFifteenRefused,
+    ReturnKeepsHeap,
+    ReturnKeepsRecord,
+    ReturnFreesDeeperOnly,
+    ReturnFreesWithinSizes,
+    ReturnAsksCallersRecord,
+    ReturnGivesCallersRegisters,
+    GrowthTakesHighestFrame,
+    GrowthOrderReversed,
+    GrowthTagZero,
+    GrowthReusesClaim,
+    ShrinkTagBeforeClaim,
+    ShrinkFreesNearest,
+    ShrinkFreesAllClaims,
+    ShrinkClearsPool,
+    EqualSizeAsksClaims,
+
+    // Change list, apply, view.
+    ListUnsorted,
+    ListPadsWithFrameBytes,
+    ListAcceptsDoubleClaim,
+    ListAsksLeaveToWrite,
+    ListClearsRestOfOutput,
+    ApplyIgnoresLiveCount,
+    ApplyAcceptsEqualKeys,
+    ApplyWrapsTotal,
+    ApplyRefusesLongerList,
+    ViewPastLiveBytes,
+    ViewReadsOriginal,
+    RefusedSpanClearsBuffer,
+}

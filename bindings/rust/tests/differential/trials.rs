@@ -1,0 +1,121 @@
+//! Document 01's "Trials at the edges", given to the library and to the model: here the expected numbers are the paper's own, so that
+//! the two cannot agree on a wrong one.
+
+use hekthumar::sys::{Fields, Joined};
+
+use crate::bytes::*;
+use crate::interface::{Answer, Bytes, Call, World};
+use crate::library;
+use crate::model;
+
+const ACCOUNTS: usize = 6;
+const TRANSACTION: usize = 0x48;
+const DATA: usize = 6000;
+
+/// Account 5 has 6,000 bytes that the program, account 5 too, owns and may write; the others do not exist.
+fn world(contexts: usize) -> World {
+    let contexts_at = SNAPSHOT_HEADER + ACCOUNT_ENTRY * ACCOUNTS;
+    let transaction_at = contexts_at + CONTEXT * contexts;
+    let data_at = transaction_at + TRANSACTION;
+    let mut snapshot = vec![0; data_at];
+    snapshot.extend((0..DATA).map(original));
+    let total = snapshot.len();
+    let header = [ACCOUNTS, contexts, TRANSACTION, SNAPSHOT_HEADER, contexts_at, transaction_at, data_at, total];
+    let entry = [5 << 16 | 3, DATA, data_at, 0];
+    for (word, value) in header.into_iter().enumerate() {
+        put_u32(&mut snapshot, 4 * word, value as u32);
+    }
+    for (word, value) in entry.into_iter().enumerate() {
+        put_u32(&mut snapshot, SNAPSHOT_HEADER + ACCOUNT_ENTRY * 5 + 4 * word, value as u32);
+    }
+    World { snapshot, control: vec![0; TABLE_AT + 4 * FRAME_ENTRY], pool: vec![0xAA; 4 * PAGE] }
+}
+
+fn original(place: usize) -> u8 {
+    (place % 251) as u8
+}
+
+/// Gives the call to both, which must answer this number, and hands back the call with its lent buffers.
+fn expect(world: &mut World, call: Call, number: u8) -> Call {
+    let (mut by_library, mut by_model) = (call.clone(), call);
+    let (answer, _) = model::run(&mut world.clone(), &mut by_model, None);
+    assert_eq!(answer.number(), number, "model: {}", by_model.describe());
+    let answer = library::run(world, &mut by_library);
+    assert_eq!(answer.number(), number, "library: {}", by_library.describe());
+    by_library
+}
+
+fn begun(contexts: usize) -> World {
+    let mut world = world(contexts);
+    expect(&mut world, Call::Begin { program: 5 }, 0);
+    world
+}
+
+fn load(world: &mut World, address: u64, size: usize, number: u8) {
+    expect(world, Call::Load { address, size }, number);
+}
+
+#[test]
+fn addresses() {
+    for (address, segment, index, offset) in
+        [(0x0300_0500_0800, 3, 5, 0x800), (0x0000_0100_0040, 0, 1, 0x40), (0x0500_0000_1000, 5, 0, 0x1000)]
+    {
+        let fields = Answer::Fields(Fields { offset, index, segment, number: 0 });
+        let joined = Answer::Joined(Joined { address, number: 0 });
+        for (mut call, answer) in [(Call::Split { address }, fields), (Call::Join { segment, index, offset }, joined)] {
+            assert_eq!(library::run(&mut world(0), &mut call), answer);
+            assert_eq!(model::run(&mut world(0), &mut call, None).0, answer);
+        }
+    }
+    let mut world = begun(0);
+    expect(&mut world, Call::Resize { region: STACK, pages: 1 }, 0);
+    load(&mut world, 0x0500_0000_1000, 1, 3);
+    load(&mut world, 0x0001_0000_0000_0000, 1, 3);
+    load(&mut world, 0, 1, 4);
+}
+
+#[test]
+fn account_data() {
+    let mut world = begun(0);
+    let base = 0x0300_0500_0000;
+    for (offset, size, number) in [(4088, 8, 0), (4093, 8, 5), (5992, 8, 0), (6000, 8, 3)] {
+        load(&mut world, base + offset, size, number);
+    }
+    expect(&mut world, Call::LoadSpan { address: base + 4093, out: Bytes(vec![0; 8]) }, 6);
+}
+
+#[test]
+fn contexts_shadow_and_regions() {
+    let mut world = begun(1);
+    load(&mut world, 0x0000_0400_0070, 8, 0);
+    load(&mut world, 0x0000_0400_0078, 1, 3);
+    load(&mut world, 0x0000_0200_0000 + 4480, 8, 0);
+    load(&mut world, 0x0000_0200_0000 + 4488, 1, 3);
+    expect(&mut world, Call::Resize { region: STACK, pages: 1 }, 0);
+    expect(&mut world, Call::Resize { region: HEAP, pages: 1 }, 0);
+    for (address, number) in [(0x0500_00FF_F000, 0), (0x0500_00FF_EFFF, 3), (0x0700_0000_0FFF, 0), (0x0700_0000_1000, 3)] {
+        load(&mut world, address, 1, number);
+    }
+    let mut many = begun(512);
+    load(&mut many, 0x0000_041F_F000, 1, 0);
+    load(&mut many, 0x0000_0420_0000, 1, 3);
+}
+
+#[test]
+fn change_list() {
+    let mut world = begun(0);
+    let empty = expect(&mut world, Call::ChangeList { out: Bytes(vec![0xEE; 16]) }, 0);
+    assert_eq!(empty, Call::ChangeList { out: Bytes([0, 16, 16, 16].into_iter().flat_map(u32::to_le_bytes).collect()) });
+    expect(&mut world, Call::Store { address: 0x0300_0500_1004, size: 1, value: 0x11 }, 0);
+    expect(&mut world, Call::Store { address: 0x0300_0500_1008, size: 1, value: 0x22 }, 0);
+    let listed = expect(&mut world, Call::ChangeList { out: Bytes(vec![0xEE; 4120]) }, 0);
+    let mut expected: Vec<u8> = [1, 16, 24, 4120].into_iter().flat_map(u32::to_le_bytes).collect();
+    expected.extend([0x05, 0x00, 0x01, 0x00, 0x70, 0x07, 0x00, 0x00]);
+    expected.extend((PAGE..DATA).map(|place| match place {
+        0x1004 => 0x11,
+        0x1008 => 0x22,
+        _ => original(place),
+    }));
+    expected.extend([0; 2192]);
+    assert_eq!(listed, Call::ChangeList { out: Bytes(expected) });
+}

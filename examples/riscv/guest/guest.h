@@ -1,0 +1,19 @@
+/* What start.S and probe.S give to the guests in C. */
+#ifndef GUEST_H
+#define GUEST_H
+
+#include "layout.h"
+
+/* The guest's own entry; what it returns is the status it ends with. */
+int64_t main(void);
+
+/* Asks the host to copy `length` bytes as one span. */
+void service_store_span(uint64_t to, uint64_t from, uint64_t length);
+
+/* One load or store of 8 bytes, a jump, and a recursion without end. */
+uint64_t probe_load(uint64_t address);
+void probe_store(uint64_t address, uint64_t value);
+void probe_jump(uint64_t address);
+void probe_descend(void);
+
+#endif

@@ -1,0 +1,56 @@
+/* What the guests and the host agree on: addresses, records, services. All numbers are little-endian. */
+#ifndef LAYOUT_H
+#define LAYOUT_H
+
+#include <stdint.h>
+
+/* An address: type in bits 47..40, index in 39..24, offset in 23..0. */
+#define ADDRESS(type, index, offset) ((uint64_t)(type) << 40 | (uint64_t)(index) << 24 | (uint64_t)(offset))
+
+#define SEGMENT_BYTES 0x1000000
+#define PAGE_BYTES 4096
+
+#define TRANSACTION ADDRESS(0, 1, 0)
+#define PROGRAM ADDRESS(0, 3, 0)
+#define ACCOUNT_DATA(account) ADDRESS(3, account, 0)
+#define HEAP ADDRESS(7, 0, 0)
+
+enum { PROGRAM_ACCOUNT = 0, SLOT_ACCOUNT = 1, FOREIGN_ACCOUNT = 2, FOREIGN_PROGRAM = 3, ACCOUNTS = 4 };
+
+/* A booking that the transaction asks for. The transaction is a u64 count and then that many of these. */
+struct request {
+    uint32_t slot;
+    uint32_t weight; /* kg */
+    char driver[16];
+};
+
+/* A slot of the slot account. 32 divides 4,096, so that no record crosses a page. */
+struct slot {
+    uint32_t taken; /* 0 or 1 */
+    uint32_t weight;
+    char driver[16];
+    uint64_t reserved;
+};
+
+enum { SLOT_ACCOUNT_BYTES = 6000, SLOTS = SLOT_ACCOUNT_BYTES / 32, REQUESTS_MAX = 8 };
+
+/* Services of the host: number in a7, arguments in a0 to a2. */
+#define SERVICE_END 0        /* a0: status */
+#define SERVICE_STORE_SPAN 1 /* a0: to, a1: from, a2: length; one span load and one span store */
+
+/* The first byte of the transaction tells the misbehaving guest what to try. */
+enum misbehaviour {
+    STORE_FOREIGN = 1,
+    RUN_OFF_STACK,
+    LOAD_MISALIGNED,
+    SPAN_ACROSS_PAGES,
+    STORE_PROGRAM,
+    LOAD_PAST_END,
+    LOAD_NULL,
+    LOAD_UPPER_BITS,
+    RUN_HEAP,
+    RUN_PAST_PROGRAM,
+    MISBEHAVIOURS = RUN_PAST_PROGRAM
+};
+
+#endif

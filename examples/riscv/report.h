@@ -1,0 +1,15 @@
+/* What the host prints of a run. */
+#ifndef REPORT_H
+#define REPORT_H
+
+#include "machine.h"
+
+enum { CHANGES_MAX = 16 + 4104 * FRAMES };
+
+/* Number, sentence, kind, address and pc. */
+void print_refusal(const struct machine *m);
+
+/* Writes the change list to `list`, of CHANGES_MAX bytes, and prints its entries; the number of pages, or -1 on a refusal. */
+int print_changes(struct buffers *b, uint8_t *list);
+
+#endif

@@ -1,0 +1,44 @@
+/* The three buffers lent to the library, and how a transaction begins in them. */
+#ifndef SNAPSHOT_H
+#define SNAPSHOT_H
+
+#include "hekthumar.h"
+
+#include <stdbool.h>
+
+enum { FRAMES = 8, SNAPSHOT_MAX = 65536, STACK_PAGES = 2, HEAP_PAGES = 1 };
+
+struct buffers {
+    uint8_t snapshot[SNAPSHOT_MAX];
+    size_t snapshot_len;
+    uint8_t control[4504 + 8 * FRAMES];
+    uint8_t pool[4096 * FRAMES];
+};
+
+/* The buffers as the first six arguments of a call. */
+#define LENT(b) (b)->snapshot, (b)->snapshot_len, (b)->control, sizeof (b)->control, (b)->pool, sizeof (b)->pool
+
+struct bytes {
+    const uint8_t *at;
+    size_t length;
+};
+
+enum { EXISTS = 1, WRITABLE = 2 };
+
+struct account {
+    uint16_t flags;
+    uint16_t owner; /* account number of the owning program */
+    struct bytes data;
+};
+
+/* Little-endian numbers of 1 to 8 bytes. */
+void put_number(uint8_t *at, size_t size, uint64_t value);
+uint64_t get_number(const uint8_t *at, size_t size);
+
+/* Lays out accounts and transaction as a snapshot without block contexts; false if it is too long for the buffer. */
+bool snapshot_build(struct buffers *b, const struct account *accounts, size_t count, struct bytes transaction);
+
+/* Begins a program and gives it its stack and heap; the library's number. */
+uint8_t begin_program(struct buffers *b, uint16_t program);
+
+#endif
