@@ -15,6 +15,8 @@ fn main() {
     let archive = folder.join(ARCHIVE);
     assert!(archive.is_file(), "there is no {}", archive.display());
     println!("cargo:rerun-if-changed={}", archive.display());
+    // for the tests that link a host in C
+    println!("cargo:rustc-env=HEKTHUMAR_ARCHIVE={}", archive.display());
     println!("cargo:rustc-link-search=native={}", folder.display());
     println!("cargo:rustc-link-lib=static=hekthumar");
 }

@@ -1,26 +1,29 @@
 -- What an access does with translation's answer: a refusal is given back and nothing changes, and a place has room for the bytes of the access.
 -- Assumes nothing.
 use Prim.Native.Nat.{ℕ, _+_, _≤_, _<_}
-use mathlib.Core.Path.{_≡_, refl, sym, _∙_}
-use mathlib.Core.Bool.{true}
+use mathlib.Core.Path.{_≡_, refl, sym, ap, _∙_}
+use mathlib.Core.Bool.{Bool, true, false}
 use mathlib.Core.List.{List}
 use lib.ListN.{length}
+use Rattle.choice.proofs.Tests.{differ}
 use Rattle.words.specs.Words.{splice}
 use Rattle.words.proofs.Splice.{length-splice}
 use Rattle.refusal.specs.declared.Refusal.{Refusal}
-use Rattle.segments.specs.Kinds.{isStore, requestValid}
+use Rattle.address.specs.Address.{offsetOf}
+use Rattle.snapshot.specs.Accounts.{entryOf}
+use Rattle.segments.specs.Kinds.{kindFetch, isStore, requestValid}
 use Rattle.segments.proofs.Requests.{request-short, request-length}
 use Rattle.translate.specs.Place.{numberOfAnswer}
-use Rattle.translate.specs.Translate.{translateOf}
+use Rattle.translate.specs.Translate.{program, translateOf}
 use Rattle.translate.specs.Fits.{Fits}
 use Rattle.translate.specs.declared.place.Place.{Place}
 use Rattle.translate.specs.declared.place.Place.the-variants.{InSnapshot, InControl, Zeros, InPool, Take}
 use Rattle.translate.specs.declared.place.Translation.{Translation}
 use Rattle.translate.specs.declared.place.Translation.the-variants.{Allowed, Refused}
-use Rattle.translate.proofs.Accepted.{accepted}
+use Rattle.translate.proofs.Accepted.{accepted, fetch-place}
 use Rattle.translate.proofs.Stores.{StorePlace, into-copy, into-new, into-region, store-place}
 use Rattle.translate.proofs.Places.{translate-fits}
-use Rattle.access.specs.Loads.{valueAt, answered, spanAt, filled}
+use Rattle.access.specs.Loads.{valueAt, codeAt, CodeFits, answered, spanAt, filled}
 use Rattle.access.specs.Stores.{Writable, placeInPool, preparedControl, preparedPool, storeNumber, storeControl, storePool}
 
 -- ---- the place of a store
@@ -45,6 +48,33 @@ length-prepared s p (InControl at) = refl
 length-prepared s p Zeros = refl
 length-prepared s p (InPool at) = refl
 length-prepared s p (Take at f a q) = length-splice p _ _
+
+-- ---- the place of a fetch
+
+-- the snapshot has room for what it is to hold
+code-fits : (s c p : List ℕ) (n : ℕ) (q : Place) → Fits s c p n q → CodeFits s n q
+code-fits s c p n (InSnapshot at) f = f
+code-fits s c p n (InControl at) f = tt
+code-fits s c p n Zeros f = tt
+code-fits s c p n (InPool at) f = tt
+code-fits s c p n (Take at f a q) x = tt
+
+-- the answer is a place in the snapshot
+abbrev original : Translation → Bool
+original (Allowed (InSnapshot at)) = true
+original (Allowed (InControl at)) = false
+original (Allowed Zeros) = false
+original (Allowed (InPool at)) = false
+original (Allowed (Take at f a q)) = false
+original (Refused r) = false
+
+-- a place in the snapshot is read there
+in-snapshot : (s c p : List ℕ) (n : ℕ) {at : ℕ} (q : Place) → Allowed (InSnapshot at) ≡ Allowed q → codeAt s n q ≡ valueAt s c p n q
+in-snapshot s c p n (InSnapshot at) e = refl
+in-snapshot s c p n (InControl at) e = absurd (differ true refl (ap original e))
+in-snapshot s c p n Zeros e = refl
+in-snapshot s c p n (InPool at) e = absurd (differ true refl (ap original e))
+in-snapshot s c p n (Take at f a q) e = refl
 
 -- ---- an answer t
 
@@ -86,6 +116,19 @@ module _ (s c p : List ℕ) (kind a n : ℕ) (t : Translation) (is : t ≡ trans
     -- what a load or a fetch gives
     pub given-value : (v : ℕ) → v ≡ valueAt s c p n q → record { value = v; number = 0 } ≡ answered s c p n (translateOf s c p kind a n)
     given-value v h = rw (h, ← is, e)
+
+    module _ (fetch : kind ≡ kindFetch) where
+      -- a fetch leads to the snapshot
+      fetched : Allowed (InSnapshot (entryOf s (program c) .start + offsetOf a)) ≡ Allowed q
+      fetched = fetch-place s c p a n (rw fetch at (sym is ∙ e)) refl
+
+      -- the code has room there
+      pub code-room : CodeFits s n q
+      code-room = code-fits s c p n q place-room
+
+      -- what it gives
+      pub given-code : (v : ℕ) → v ≡ codeAt s n q → record { value = v; number = 0 } ≡ answered s c p n (translateOf s c p kind a n)
+      given-code v h = given-value v (h ∙ in-snapshot s c p n q fetched)
 
     -- what a span load gives
     pub given-span : (out out′ : List ℕ) → out′ ≡ spanAt s c p out q

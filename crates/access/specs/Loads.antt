@@ -1,6 +1,6 @@
 -- Document 01, "Order for an access": loads, fetches and span loads. "Each access takes that answer apart and does just that."
 -- Assumes nothing.
-use Prim.Native.Nat.{ℕ}
+use Prim.Native.Nat.{ℕ, _+_, _≤_}
 use mathlib.Core.List.{List}
 use lib.ListN.{length}
 use Rattle.words.specs.Words.{wordAt, bytesAt, zeros}
@@ -21,6 +21,22 @@ valueAt s c p n (InControl at) = wordAt n c at
 valueAt s c p n Zeros = 0
 valueAt s c p n (InPool at) = wordAt n p at
 valueAt s c p n (Take at f a q) = 0
+
+-- the same of code: "Fetch is allowed in 0/3 only", whose bytes are the ground's
+abbrev pub codeAt : List ℕ → ℕ → Place → ℕ
+codeAt s n (InSnapshot at) = wordAt n s at
+codeAt s n (InControl at) = 0
+codeAt s n Zeros = 0
+codeAt s n (InPool at) = 0
+codeAt s n (Take at f a q) = 0
+
+-- n bytes of code lie in the snapshot
+abbrev pub CodeFits : List ℕ → ℕ → Place → Type 0
+CodeFits s n (InSnapshot at) = at + n ≤ length s
+CodeFits s n (InControl at) = Unit {0}
+CodeFits s n Zeros = Unit {0}
+CodeFits s n (InPool at) = Unit {0}
+CodeFits s n (Take at f a q) = Unit {0}
 
 -- a value and a number: "a value is then 0" where refused
 abbrev pub answered : List ℕ → List ℕ → List ℕ → ℕ → Translation → Value

@@ -14,7 +14,7 @@ use words::runs::copy;
 ghost use mathlib.Core.Path.{_≡_};
 ghost use Prim.Native.Nat.{_≤_};
 ghost use lib.ListN.{length};
-ghost use Rattle.access.specs.Loads.{valueAt, loadOf, fetchOf, spanAt, loadSpanNumber, loadSpanOut};
+ghost use Rattle.access.specs.Loads.{valueAt, codeAt, CodeFits, loadOf, fetchOf, spanAt, loadSpanNumber, loadSpanOut};
 ghost use Rattle.translate.specs.Fits.{Fits};
 
 // What a load or a fetch gives: a value and a number. A refused one gives the value 0.
@@ -33,6 +33,25 @@ fn value_at(s: &[u8], c: &[u8], pool: &[u8], place: Place, n: usize) -> u64
         Place::InControl(at) => read(c, at, n),
         Place::Zeros => 0,
         Place::InPool(at) => read(pool, at, n),
+        Place::Take {
+            at: _,
+            frame: _,
+            account: _,
+            page: _,
+        } => 0,
+    }
+}
+
+// The number of n bytes of code: a fetch leads to the snapshot alone.
+fn code_at(s: &[u8], place: Place, n: usize) -> u64
+    requires { ⌜ (n ≤ 8) × CodeFits (now s) n place ⌝ }
+    ensures { λ r. ⌜ r ≡ codeAt (now (s .entry)) n place ⌝ }
+{
+    match place {
+        Place::InSnapshot(at) => read(s, at, n),
+        Place::InControl(_) => 0,
+        Place::Zeros => 0,
+        Place::InPool(_) => 0,
         Place::Take {
             at: _,
             frame: _,
@@ -71,7 +90,7 @@ pub fn fetch(s: &[u8], c: &[u8], pool: &[u8], a: Address, n: usize) -> Value
         };
     };
     Value {
-        value: value_at(s, c, pool, place, n),
+        value: code_at(s, place, n),
         number: DONE,
     }
 }

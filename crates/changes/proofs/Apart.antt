@@ -17,9 +17,9 @@ use Rattle.frames.proofs.Claims.{IsCopy, claims-copy, copy-claims, frame-found,
 use Rattle.frames.proofs.Loops.{fails}
 use Rattle.changes.specs.Keys.{keyAccount, keyPage, keyClaim, keyLimit, isFound, isCopied, copyKeys}
 use Rattle.changes.specs.List.{isCopy}
-use Rattle.changes.specs.Copies.{entryCode, codeKey, codeFrame, codesBelow, keyTwice}
+use Rattle.changes.specs.Copies.{entryCode, codeKey, codeFrame, Ascending, codesBelow, keyTwice}
 use Rattle.changes.proofs.Every.{every-at, every-all}
-use Rattle.changes.proofs.Ascending.{Member, Ascending, getD-images, member-image, image-member, ascending-steps, ascending-once, ascending-same, picked-passes, passes-picked, picked-ascending}
+use Rattle.changes.proofs.Ascending.{Member, getD-images, member-image, image-member, ascending-steps, ascending-once, ascending-same, picked-passes, passes-picked, picked-ascending}
 use Rattle.changes.proofs.Codes.{entryKey, code-key, code-frame, code-once, CopyCode, codes-copies, copies-codes, codes-ascending}
 
 -- of the first n entries no two copies are of one page

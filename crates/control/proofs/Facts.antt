@@ -1,14 +1,15 @@
 -- The tests of the control block and of the three buffers, as facts by name, and back. Assumes nothing.
 use Prim.Native.Nat.{ℕ, _≤_, _<_}
-use mathlib.Core.Path.{_≡_, sym}
+use mathlib.Core.Path.{_≡_, sym, ap, _∙_}
 use mathlib.Core.Bool.{Bool, true, false}
 use mathlib.Core.List.{List}
 use lib.ListN.{length}
 use borrow.Author.Tests.{leb-true, eqb-true, ltb-true, le-leb, eq-eqb, lt-ltb}
 use Rattle.words.specs.Words.{wordAt}
 use Rattle.choice.proofs.Tests.{by-test, both-true}
-use Rattle.snapshot.specs.Header.{accounts, snapshotValid}
-use Rattle.control.specs.Control.{shadowAt, tableAt, frameLimit, liveLimit, pageLimit, controlLength, poolLength, frames, invocations, current, controlValid, currentValid, buffersValid}
+use Rattle.snapshot.specs.Header.{headerOf, accounts, snapshotValid}
+use Rattle.snapshot.specs.declared.header.Header.{Header}
+use Rattle.control.specs.Control.{shadowAt, tableAt, frameLimit, liveLimit, pageLimit, controlLength, poolLength, frames, invocations, current, controlValid, currentValid, controlReady, buffersValid}
 
 -- a test that cannot pass fails
 fails : (b : Bool) → (b ≡ true → ⊥) → false ≡ b
@@ -86,7 +87,7 @@ pub record BuffersFacts (s c p : List ℕ) : Type 0 where
 
 module _ (s c p : List ℕ) where
   pub buffers-facts : buffersValid s c p ≡ true → BuffersFacts s c p
-  unfolding buffersValid
+  unfolding buffersValid controlReady
   buffers-facts e =
       let t₁ = both-true _ _ e in
       let t₂ = both-true _ _ (t₁ .1) in
@@ -94,9 +95,15 @@ module _ (s c p : List ℕ) where
       record { snapshot = t₁ .0; control = t₂ .0; pool = eqb-true _ _ (t₃ .0); current = t₃ .1 }
 
   pub buffers-valid : BuffersFacts s c p → buffersValid s c p ≡ true
-  unfolding buffersValid
+  unfolding buffersValid controlReady
   buffers-valid f = rw (f .snapshot, f .control, eq-eqb _ _ (f .pool), f .current)
 
   -- where a fact fails, the test does
   pub buffers-invalid : (BuffersFacts s c p → ⊥) → false ≡ buffersValid s c p
   buffers-invalid h = fails (buffersValid s c p) (λ e. h (buffers-facts e))
+
+  -- where the snapshot is valid, its control block and pool decide
+  pub ready-decides : {h : Header} {r : Bool} → snapshotValid s ≡ true → h ≡ headerOf s → r ≡ controlReady c p (h .accounts)
+      → r ≡ buffersValid s c p
+  unfolding buffersValid
+  ready-decides es eh er = rw es (er ∙ ap (λ (x : Header). controlReady c p (x .accounts)) eh)

@@ -142,7 +142,11 @@ unfoldable pub currentValid : List ℕ → ℕ → Bool
 currentValid c count =
     both (ltb (current c .program .0) count) (both (leb (current c .stack) pageLimit) (leb (current c .heap) pageLimit))
 
+-- the part of the next that the control block and the pool have in it, with so many accounts
+unfoldable pub controlReady : List ℕ → List ℕ → ℕ → Bool
+controlReady c p count = both (controlValid c) (both (eqb (length p) (poolLength (frames c))) (currentValid c count))
+
 -- "1 for headers, buffer lengths and frame D (so reads the first 1 of every order but begin's)"
 unfoldable pub buffersValid : List ℕ → List ℕ → List ℕ → Bool
 buffersValid s c p =
-    both (snapshotValid s) (both (controlValid c) (both (eqb (length p) (poolLength (frames c))) (currentValid c (accounts s))))
+    both (snapshotValid s) (controlReady c p (accounts s))

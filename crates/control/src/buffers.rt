@@ -6,7 +6,7 @@ use super::shadow::invocation_at;
 use snapshot::header::whole_header;
 ghost use mathlib.Core.Path.{_≡_};
 ghost use mathlib.Core.Bool.{true};
-ghost use Rattle.control.specs.Control.{controlValid, currentValid, buffersValid};
+ghost use Rattle.control.specs.Control.{controlValid, currentValid, controlReady, buffersValid};
 
 // The length of a page and of a frame.
 pub const PAGE: usize = 4096;
@@ -29,19 +29,26 @@ pub fn current_valid(c: &[u8], accounts: usize) -> bool
     i.heap <= PAGES
 }
 
+// Whether the control block, the pool's length and the current invocation keep their rules, with so many accounts.
+pub fn control_ready(c: &[u8], pool: &[u8], accounts: usize) -> bool
+    ensures { λ r. ⌜ r ≡ controlReady (now (c .entry)) (now (pool .entry)) accounts ⌝ }
+{
+    if valid(c) {
+        if pool.len() != PAGE * frame_count(c) {
+            return false;
+        }
+        return current_valid(c, accounts);
+    }
+    false
+}
+
 // Whether headers, buffer lengths and the current invocation keep their rules.
 pub fn buffers_valid(s: &[u8], c: &[u8], pool: &[u8]) -> bool
     ensures { λ r. ⌜ r ≡ buffersValid (now (s .entry)) (now (c .entry)) (now (pool .entry)) ⌝ }
 {
     if snapshot::header::valid(s) {
-        if valid(c) {
-            if pool.len() != PAGE * frame_count(c) {
-                return false;
-            }
-            let h = whole_header(s);
-            return current_valid(c, h.accounts);
-        }
-        return false;
+        let h = whole_header(s);
+        return control_ready(c, pool, h.accounts);
     }
     false
 }

@@ -10,7 +10,7 @@ use Rattle.words.proofs.Word.{word-before, word-behind}
 use Rattle.words.proofs.Run.{run-before}
 use Rattle.choice.proofs.Tests.{by-test}
 use Rattle.control.proofs.Facts.{control-facts}
-use Rattle.control.specs.Control.{tableAt, liveLimit, registersSize, recordAt, frames, invocations, invocationOf, registersOf, current, controlValid, currentValid, buffersValid}
+use Rattle.control.specs.Control.{tableAt, liveLimit, registersSize, recordAt, frames, invocations, invocationOf, registersOf, current, controlValid, currentValid, controlReady, buffersValid}
 use Rattle.frames.specs.Table.{frameEntryAt, frameField, frameEntryOf, frameEntryBytes, putFrameEntry, holds, claims, isFree}
 use Rattle.frames.specs.declared.table.FrameEntry.{FrameEntry}
 use Rattle.frames.specs.declared.finding.Claim.{Claim}
@@ -64,7 +64,7 @@ module _ (c : List ℕ) (i : ℕ) (e : FrameEntry) where
 
   -- so do the three buffers
   pub buffers-valid-kept : (s p : List ℕ) → buffersValid s (putFrameEntry c i e) p ≡ buffersValid s c p
-  unfolding buffersValid
+  unfolding buffersValid controlReady
   buffers-valid-kept s p =
       rw (control-valid-kept, frames-kept)
       (by-test (controlValid c) (λ t. rw (current-valid-kept _ (control-facts c t .few-live))) (λ t. rw t))

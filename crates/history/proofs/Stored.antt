@@ -18,7 +18,7 @@ use Rattle.choice.proofs.Tests.{by-test, differ}
 use Rattle.address.specs.Address.{typeOf, indexOf, offsetOf}
 use Rattle.snapshot.specs.Accounts.{entryOf, dataLength, original}
 use Rattle.snapshot.proofs.Facts.{snapshot-facts, data-short, length-original}
-use Rattle.control.specs.Control.{liveLimit, frames, invocations, buffersValid}
+use Rattle.control.specs.Control.{liveLimit, frames, invocations, controlReady, buffersValid}
 use Rattle.control.specs.declared.shadow.Region.{Region}
 use Rattle.control.specs.declared.shadow.Region.the-variants.{Stack, Heap}
 use Rattle.control.proofs.Facts.{BuffersFacts, control-facts, buffers-facts}
@@ -56,7 +56,7 @@ page-cases a p d q f h =
 
 -- buffers stay fit with a pool of the same length
 buffers-spliced : (s c p : List ℕ) (at : ℕ) (bs : List ℕ) → buffersValid s c p ≡ true → buffersValid s c (splice p at bs) ≡ true
-unfolding buffersValid
+unfolding buffersValid controlReady
 buffers-spliced s c p at bs h = rw (length-splice p at bs) h
 
 -- ---- bytes stored into a frame that has the page

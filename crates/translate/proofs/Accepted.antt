@@ -24,7 +24,7 @@ use Rattle.control.specs.Control.{current, pagesOf, buffersValid}
 use Rattle.control.specs.declared.shadow.Region.{Region}
 use Rattle.control.specs.declared.shadow.Region.the-variants as region
 use Rattle.segments.specs.Kinds.{kindFetch, isStore, requestValid, aligned}
-use Rattle.segments.specs.Rules.{row, rules, rowOf, permitted}
+use Rattle.segments.specs.Rules.{row, rules, rowOf, fetchable, permitted}
 use Rattle.segments.specs.declared.rules.IndexRule.the-variants.{AnyAccount}
 use Rattle.segments.specs.declared.rules.Presence.{Presence}
 use Rattle.segments.specs.declared.rules.Presence.the-variants.{Transaction, Shadow, Program, Context, Metadata, Data, Stack, Heap}
@@ -39,6 +39,7 @@ use Rattle.translate.specs.Place.{refusing}
 use Rattle.translate.specs.Checks.{firstChecks, rowChecks}
 use Rattle.translate.specs.Translate.{program, concernedValid, ownedBy, owned, regionRoom, roomOf, rowCheck, dataPlace, regionPlace, placeOf, inRow, inSegment, translateOf}
 use Rattle.translate.specs.declared.request.Request.{Request}
+use Rattle.translate.specs.declared.place.Place.the-variants.{InSnapshot}
 use Rattle.translate.specs.declared.place.Translation.{Translation}
 use Rattle.translate.specs.declared.place.Translation.the-variants.{Allowed, Refused}
 
@@ -227,6 +228,28 @@ module _ (s c p : List ℕ) (kind a n : ℕ) {t : Translation} (e : translateOf 
   pub data-accepted : DataAccess s c p kind a n
       × (dataPlace c kind (accountOf a) (entryOf s (accountOf a) .start) (offsetOf a) ≡ t)
   data-accepted = (data-access, sym (data-place data-access) ∙ e)
+
+-- ---- a fetch
+
+-- only the program may be fetched from
+code : (r : Presence) → fetchable r ≡ true → r ≡ Program
+code Transaction e = absurd (differ false e refl)
+code Shadow e = absurd (differ false e refl)
+code Program e = refl
+code Context e = absurd (differ false e refl)
+code Metadata e = absurd (differ false e refl)
+code Data e = absurd (differ false e refl)
+code Stack e = absurd (differ false e refl)
+code Heap e = absurd (differ false e refl)
+
+-- so a fetch that is accepted leads to the program's original data
+pub fetch-place : (s c p : List ℕ) (a n : ℕ) {t : Translation} → translateOf s c p kindFetch a n ≡ t → last t ≡ true
+    → Allowed (InSnapshot (entryOf s (program c) .start + offsetOf a)) ≡ t
+unfolding placeOf
+fetch-place s c p a n e l =
+    let x = accepted s c p kindFetch a n e l in
+    let r = code (x .row .presence) (sym (permitted-fetch kindFetch (x .row .presence) (x .row .store) _ refl) ∙ x .passed .permitted) in
+    rw r at (x .place)
 
 -- ---- a store elsewhere
 

@@ -21,7 +21,9 @@ use segments::rules::StoreRule;
 use segments::rules::permitted;
 ghost use mathlib.Core.Path.{_≡_};
 ghost use mathlib.Core.Bool.{true};
+ghost use mathlib.Core.Logic.{_⊎_};
 ghost use Prim.Native.Nat.{_≤_, _<_};
+ghost use Rattle.segments.specs.declared.rules.Presence.the-variants.{Stack, Heap};
 ghost use Rattle.control.specs.Control.{controlValid};
 ghost use Rattle.translate.specs.Translate.{Ready, inRow, regionPlace, regionRoom, presenceOf};
 
@@ -39,6 +41,17 @@ fn presence_of(r: Region) -> Presence
         Region::Stack => Presence::Stack,
         Region::Heap => Presence::Heap,
     }
+}
+
+// The region of a segment of anonymous pages.
+pub fn region_of(p: Presence) -> Region
+    requires { ⌜ (p ≡ Stack) ⊎ (p ≡ Heap) ⌝ }
+    ensures { λ r. ⌜ p ≡ presenceOf r ⌝ }
+{
+    if let Presence::Heap = p {
+        return Region::Heap;
+    }
+    Region::Stack
 }
 
 // How many bytes of the region are present from the offset on: the stack's pages are the topmost, the heap's the lowest.

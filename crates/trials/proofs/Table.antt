@@ -10,7 +10,7 @@ use Rattle.refusal.specs.Checks.{need, _then_}
 use Rattle.address.specs.Address.{splitOf}
 use Rattle.snapshot.specs.Header.{headerOf, countsValid, offsetsValid, totalValid, snapshotValid}
 use Rattle.snapshot.specs.Accounts.{entryOf, bodyValid, validWithin, entryValid}
-use Rattle.control.specs.Control.{controlValid, invocationOf, invocationBytes, currentValid, buffersValid}
+use Rattle.control.specs.Control.{controlValid, invocationOf, invocationBytes, currentValid, controlReady, buffersValid}
 use Rattle.frames.specs.Table.{frameField, frameEntryBytes, claims, isFree, foundIn, frameOf, freeFrame}
 use Rattle.segments.specs.Kinds.{requestValid, aligned, within}
 use Rattle.segments.specs.Rules.{rules, rowOf, permitted}
@@ -21,7 +21,7 @@ use Rattle.trials.specs.Trials.{Trial, trials, splitGives, passes, allPa
 
 -- the trials marked P
 pub table : T (allPass trials)
-unfolding wordAt wordBytes zeros seek need _then_ splitOf headerOf countsValid offsetsValid totalValid snapshotValid entryOf bodyValid validWithin entryValid controlValid invocationOf invocationBytes currentValid buffersValid frameField frameEntryBytes claims isFree foundIn frameOf freeFrame requestValid aligned within rules rowOf permitted firstChecks rowChecks concernedValid owned roomOf rowCheck dataPlace regionPlace placeOf inRow inSegment translateOf entryBytes snapshotHeader snapshotWith controlWith plain onePage trials splitGives passes allPass
+unfolding wordAt wordBytes zeros seek need _then_ splitOf headerOf countsValid offsetsValid totalValid snapshotValid entryOf bodyValid validWithin entryValid controlValid invocationOf invocationBytes currentValid buffersValid controlReady frameField frameEntryBytes claims isFree foundIn frameOf freeFrame requestValid aligned within rules rowOf permitted firstChecks rowChecks concernedValid owned roomOf rowCheck dataPlace regionPlace placeOf inRow inSegment translateOf entryBytes snapshotHeader snapshotWith controlWith plain onePage trials splitGives passes allPass
 table = tt
 
 -- each row of a table that passes

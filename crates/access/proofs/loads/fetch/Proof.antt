@@ -1,9 +1,10 @@
 -- `access::loads::fetch` meets its contract: it gives back translation's refusal, or the value at its place, which has room for the bytes.
 -- Assumes nothing.
+use mathlib.Core.Path.{refl}
 use native.Mathlib.Omega.{arith}
 use borrow.Author.Needs.{needs}
 use Rattle.access.specs.Loads.{fetchOf}
-use Rattle.access.proofs.Answers.{refused-value, place-room, place-short, given-value}
+use Rattle.access.proofs.Answers.{refused-value, place-short, code-room, given-code}
 use Rattle.access.proofs.loads.fetch.Statement.{statement}
 use Rattle.access.proofs.loads.fetch.Tie as tie
 
@@ -24,16 +25,16 @@ unfolding fetchOf
 returns c =
     refused-value _ _ _ _ _ _ _ (c .before .before .before .translate .ensures) _ (c .before .enum-told .given .1) _ (c .number-of .ensures)
 
-value-at-requires : tie.Need-value-at-requires
-value-at-requires c κs =
+code-at-requires : tie.Need-code-at-requires
+code-at-requires c κs =
     let i = c .before .before .before .translate .ensures in
     let e = c .before .fetched .given .1 in
-    (place-short _ _ _ _ _ _ _ i _ e (omega arith), place-room _ _ _ _ _ _ _ i _ e)
+    (place-short _ _ _ _ _ _ _ i _ e (omega arith), code-room _ _ _ _ _ _ _ i _ e refl)
 
 returns-2 : tie.Need-returns-2
 unfolding fetchOf
 returns-2 c =
-    given-value _ _ _ _ _ _ _ (c .before .before .before .before .translate .ensures) _ (c .before .before .fetched .given .1) _ (c .value-at .ensures)
+    given-code _ _ _ _ _ _ _ (c .before .before .before .before .translate .ensures) _ (c .before .before .fetched .given .1) refl _ (c .code-at .ensures)
 
 pub fetch-spec : {M : Type 1} → statement M
 fetch-spec =
@@ -44,5 +45,5 @@ fetch-spec =
     enum-told
     number-of-requires
     returns
-    value-at-requires
+    code-at-requires
     returns-2)
