@@ -1,39 +1,10 @@
 #!/usr/bin/env python3
 """Writes the snapshots and control blocks that the programs read: crates/NAME/data/*."""
 import os
-import struct
+
+from layouts import account, control, data_at, entry, record, snapshot
 
 crates = os.path.join(os.path.dirname(os.path.abspath(__file__)), "..", "crates")
-
-
-def account(flags, owner, length, start, zero=0, metadata=bytes(64)):
-    return struct.pack("<HHIII", flags, owner, length, start, zero) + bytes(metadata)
-
-
-def data_at(count, contexts, transaction):
-    return 32 + 80 * count + 120 * contexts + len(transaction)
-
-
-def snapshot(accounts, contexts, transaction, data):
-    contexts_at = 32 + 80 * len(accounts)
-    transaction_at = contexts_at + 120 * contexts
-    start = data_at(len(accounts), contexts, transaction)
-    header = struct.pack("<8I", len(accounts), contexts, len(transaction), 32, contexts_at, transaction_at, start, start + len(data))
-    return header + b"".join(accounts) + bytes(120 * contexts) + transaction + data
-
-
-def record(program, stack, heap):
-    return struct.pack("<HHHH", program, stack, heap, 0) + bytes(256)
-
-
-def entry(use, tag, number, page):
-    return struct.pack("<BBHHH", use, tag, number, page, 0)
-
-
-def control(records, entries):
-    spare = [bytes(264)] * (16 - len(records))
-    shadow = [bytes(264)] + records + spare
-    return struct.pack("<4I", len(entries), len(records), 16, 4504) + b"".join(shadow) + b"".join(entries)
 
 
 def inspect():

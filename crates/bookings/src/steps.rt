@@ -1,7 +1,7 @@
 // One call, asked and answered in a line.
 use access::stores::store;
 use address::Address;
-use changes::apply::apply;
+use apply::apply;
 use changes::list::change_list;
 use console::hex;
 use console::number;

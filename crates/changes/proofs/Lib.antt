@@ -5,7 +5,3 @@ pub mod Apart
 pub mod Listable
 pub mod Written
 pub mod Answers
-pub mod Parts
-pub mod Good
-pub mod Applied
-pub mod Shown

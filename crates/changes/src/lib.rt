@@ -1,5 +1,3 @@
-// What a transaction changed: the change list, its application to an account's data, and the view of a page.
-pub mod apply;
+// What a transaction changed: the change list.
 pub mod copies;
 pub mod list;
-pub mod view;

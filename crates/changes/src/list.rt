@@ -1,6 +1,4 @@
 // The change list: header, entries in ascending order, pages.
-use super::apply::CHANGE;
-use super::apply::HEADER;
 use super::copies::FRAMES;
 use super::copies::gather;
 use access::pages::live_bytes;
@@ -29,6 +27,12 @@ ghost use Rattle.snapshot.specs.Header.{snapshotValid};
 ghost use Rattle.control.specs.Control.{controlValid, frames};
 ghost use Rattle.changes.specs.List.{listHeaderBytes, joined, pagesAt, listTotal, every, changeListNumber, changeListOut};
 ghost use Rattle.changes.specs.Copies.{keyTwice, pageListable, entryListable, ChangeFits, codeEntry, codePage};
+
+// The header's length, and so where the entries start.
+pub const HEADER: usize = 16;
+
+// The length of an entry.
+pub const CHANGE: usize = 8;
 
 // The length of a page.
 const PAGE: usize = 4096;

@@ -8,8 +8,8 @@ use Rattle.translate.specs.declared.place.Place.the-variants.{InSnapshot, InCon
 use Rattle.translate.specs.declared.place.Translation.{Translation}
 use Rattle.translate.specs.declared.place.Translation.the-variants.{Allowed, Refused}
 use Rattle.access.specs.declared.loads.Value.{Value}
-use Rattle.changes.specs.declared.view.View.{View}
-use Rattle.changes.specs.declared.view.View.the-variants as view
+use Rattle.view.specs.declared.View.{View}
+use Rattle.view.specs.declared.View.the-variants as view
 use Rattle.hekthumar.specs.declared.addresses.AddressAnswer.{AddressAnswer}
 use Rattle.hekthumar.specs.declared.addresses.FieldsAnswer.{FieldsAnswer}
 use Rattle.hekthumar.specs.declared.accesses.PlaceAnswer.{PlaceAnswer}

@@ -1,16 +1,16 @@
 // The change list, its application and the page view.
-use changes::apply::apply;
+use apply::apply;
 use changes::list::change_list;
-use changes::view::View;
-use changes::view::find_view;
 use frames::table::Page;
 use refusal::DONE;
 use refusal::number;
 use snapshot::accounts::Account;
+use view::View;
+use view::find_view;
 ghost use mathlib.Core.Path.{_≡_};
 ghost use Rattle.changes.specs.List.{changeListNumber, changeListOut};
-ghost use Rattle.changes.specs.Apply.{applyNumber, applyData};
-ghost use Rattle.changes.specs.View.{viewOf};
+ghost use Rattle.apply.specs.Apply.{applyNumber, applyData};
+ghost use Rattle.view.specs.View.{viewOf};
 ghost use Rattle.hekthumar.specs.Answers.{viewAnswer};
 
 // The part of a buffer that holds a page's live bytes: holder 0 none, 1 snapshot, 2 pool.

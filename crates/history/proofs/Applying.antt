@@ -25,11 +25,11 @@ use Rattle.access.specs.Pages.{liveOf, live}
 use Rattle.access.proofs.PageBytes.{live-most, live-positive}
 use Rattle.changes.specs.Keys.{keyOf, keyAccount, keyPage, keyLimit}
 use Rattle.changes.specs.List.{listHeader, pagesAt, listTotal, padded, changeListOut}
-use Rattle.changes.specs.Apply.{listCount, changeAccount, changePage, changeLive, layoutExact, ascends, changeGood, listGood, applied, applyNumber, applyData}
+use Rattle.apply.specs.Apply.{listCount, changeAccount, changePage, changeLive, layoutExact, ascends, changeGood, listGood, applied, applyNumber, applyData}
 use Rattle.changes.proofs.Every.{every-all}
 use Rattle.changes.proofs.Ascending.{Member, passes-picked, picked-ascending}
 use Rattle.changes.proofs.Written.{length-padded}
-use Rattle.changes.proofs.Applied.{length-applied, applied-other, applied-page}
+use Rattle.apply.proofs.Applied.{length-applied, applied-other, applied-page}
 use Rattle.history.specs.Calls.{Buffers}
 use Rattle.history.specs.Replay.{Replay, touchedKeys, plainPage, expectedList}
 use Rattle.history.specs.Claims.{ApplyRight}

@@ -15,7 +15,7 @@ use Rattle.snapshot.specs.Accounts.{entryOf, dataLength}
 use Rattle.control.specs.Control.{frameLimit, pageSize}
 use Rattle.changes.specs.Keys.{keyAccount, keyPage, keyLimit}
 use Rattle.changes.specs.List.{listHeader, pagesAt, listTotal, listHeaderBytes, changeBytes, joined, listBytes}
-use Rattle.changes.specs.Apply.{listCount, changeAccount, changePage, changeLive}
+use Rattle.apply.specs.Apply.{listCount, changeAccount, changePage, changeLive}
 use Rattle.changes.proofs.Written.{length-joined, length-header, length-change}
 
 -- ---- header and entry

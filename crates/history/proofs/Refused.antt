@@ -24,9 +24,9 @@ use Rattle.access.specs.Stores.{controlAfter, poolAfter, storeNumber, storeCont
 use Rattle.invoke.specs.Invoke.{beginCheck, beginNumber, beginControl, callCheck, callNumber, callControl, returnCheck, returnNumber, returnControl, returnOut}
 use Rattle.regions.specs.Resize.{Resized, sizeOf, growCheck, growTo, shrinkCheck, shrinkControl, resizeTo, resizeCheck, regionOf, orRefused, resizeOf}
 use Rattle.changes.specs.List.{listCheck, changeListNumber, changeListOut}
-use Rattle.changes.specs.View.{viewOf, viewNumber, viewBytes}
-use Rattle.changes.specs.declared.view.View.{View}
-use Rattle.changes.specs.declared.view.View.the-variants as view
+use Rattle.view.specs.View.{viewOf, viewNumber, viewBytes}
+use Rattle.view.specs.declared.View.{View}
+use Rattle.view.specs.declared.View.the-variants as view
 use Rattle.history.specs.Calls.{Call, begin, translation, load, store, fetch, load-span, store-span, call, return, resize, change-list, page-view, Buffers, Step, stepOf, accepted}
 use Rattle.history.specs.Replay.{Replay}
 use Rattle.history.proofs.Good.{Good}

@@ -16,7 +16,7 @@ use Rattle.access.specs.Stores.{storeNumber, storeControl, storePool}
 use Rattle.invoke.specs.Invoke.{beginNumber, beginControl, callNumber, callControl, returnNumber, returnControl, returnOut}
 use Rattle.regions.specs.Resize.{resizeOf}
 use Rattle.changes.specs.List.{changeListNumber, changeListOut}
-use Rattle.changes.specs.View.{viewOf, viewNumber, viewBytes}
+use Rattle.view.specs.View.{viewOf, viewNumber, viewBytes}
 use lib.ListN.{length}
 
 -- "begin, translation, load, store, fetch, span load, span store, call, return, resize, change list, page view", each with its

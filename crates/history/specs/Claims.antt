@@ -11,7 +11,7 @@ use Rattle.snapshot.specs.Accounts.{known, entryValid, original}
 use Rattle.snapshot.specs.declared.accounts.Account.{Account}
 use Rattle.control.specs.Control.{current}
 use Rattle.changes.specs.List.{listTotal, changeListNumber, changeListOut}
-use Rattle.changes.specs.Apply.{applyNumber, applyData}
+use Rattle.apply.specs.Apply.{applyNumber, applyData}
 use Rattle.lifecycle.specs.Regions.{framesInUse}
 use Rattle.history.specs.Calls.{Call, begin, translation, load, store, fetch, load-span, store-span, call, return, resize, change-list, page-view, Answer, Buffers, stepOf, accepted, run}
 use Rattle.history.specs.Replay.{Replay, started, inData, replayStep, replay, feed, touchedKeys, expectedList}

@@ -1,0 +1,149 @@
+// Applying a change list to an account's data.
+use access::pages::live_bytes;
+use changes::list::CHANGE;
+use changes::list::HEADER;
+use frames::table::Page;
+use refusal::DONE;
+use refusal::Refusal;
+use refusal::number;
+use snapshot::accounts::Account;
+use words::numbers::u16_at;
+use words::numbers::u32_at;
+use words::runs::copy;
+ghost use mathlib.Core.Path.{_≡_};
+ghost use mathlib.Core.Bool.{true};
+ghost use Prim.Native.Nat.{_+_, _≤_, _<_};
+ghost use lib.ListN.{length};
+ghost use Rattle.changes.specs.List.{every};
+ghost use Rattle.changes.specs.Keys.{keyOf};
+ghost use Rattle.apply.specs.Apply.{listCount, changeAt, changeAccount, changePage, ascends, layoutExact, changeGood, listGood, applyEntry, applied, applyNumber, applyData};
+
+// The length of a page.
+const PAGE: usize = 4096;
+
+// Whether the header says exactly the layout that its count gives, and the list holds all of it.
+fn layout_exact(l: &[u8]) -> bool
+    ensures { λ r. ⌜ r ≡ layoutExact (now (l .entry)) ⌝ }
+{
+    if l.len() < HEADER {
+        return false;
+    }
+    let n = u32_at(l, 0);
+    if u32_at(l, 4) != HEADER {
+        return false;
+    }
+    if u32_at(l, 8) != HEADER + CHANGE * n {
+        return false;
+    }
+    if u32_at(l, 12) != HEADER + CHANGE * n + PAGE * n {
+        return false;
+    }
+    HEADER + CHANGE * n + PAGE * n <= l.len()
+}
+
+// The account and the page of entry i as one number, in whose order they ascend.
+fn change_key(l: &[u8], i: usize) -> usize
+    requires { ⌜ changeAt i + 8 ≤ length (now l) ⌝ }
+    ensures { λ r. ⌜ r ≡ keyOf (changeAccount (now (l .entry)) i) (changePage (now (l .entry)) i) ⌝ }
+{
+    let at = HEADER + CHANGE * i;
+    65536 * (u16_at(l, at) as usize) + (u16_at(l, at + 2) as usize)
+}
+
+// Whether entry i has a higher key than the one before it.
+fn ascends(l: &[u8], i: usize) -> bool
+    requires { ⌜ changeAt i + 8 ≤ length (now l) ⌝ }
+    ensures { λ r. ⌜ r ≡ ascends (now (l .entry)) i ⌝ }
+{
+    if i == 0 {
+        return true;
+    }
+    change_key(l, i - 1) < change_key(l, i)
+}
+
+// Whether entry i is in order and its live count is one that it may have.
+fn change_good(l: &[u8], a: Account, size: usize, i: usize) -> bool
+    requires { ⌜ changeAt i + 8 ≤ length (now l) ⌝ }
+    ensures { λ r. ⌜ r ≡ changeGood (now (l .entry)) a size i ⌝ }
+{
+    if ascends(l, i) {
+        let at = HEADER + CHANGE * i;
+        let live = u32_at(l, at + 4);
+        if live < 1 {
+            return false;
+        }
+        if PAGE < live {
+            return false;
+        }
+        if u16_at(l, at) == a.0 {
+            return live == live_bytes(size, Page(u16_at(l, at + 2)));
+        }
+        return true;
+    }
+    false
+}
+
+// Whether every entry is good.
+fn changes_good(l: &[u8], a: Account, size: usize) -> bool
+    requires { ⌜ layoutExact (now l) ≡ true ⌝ }
+    ensures { λ r. ⌜ r ≡ every (changeGood (now (l .entry)) a size) (listCount (now (l .entry))) ⌝ }
+{
+    let n = u32_at(l, 0);
+    let mut i = 0;
+    while i < n {
+        if change_good(l, a, size, i) {
+            i += 1;
+        } else {
+            return false;
+        }
+    }
+    true
+}
+
+// Replaces the page of entry i by its live bytes, where the entry is this account's.
+fn apply_entry(l: &[u8], a: Account, data: &mut [u8], i: usize)
+    requires { ⌜ (layoutExact (now l) ≡ true) × (i < listCount (now l)) ⌝ }
+    requires { ⌜ changeGood (now l) a (length (now «data»)) i ≡ true ⌝ }
+    ensures { λ _. ⌜ now («data» .exit) ≡ applyEntry (now (l .entry)) a (now («data» .entry)) i ⌝ }
+{
+    let at = HEADER + CHANGE * i;
+    if u16_at(l, at) == a.0 {
+        let n = u32_at(l, 0);
+        let page = u16_at(l, at + 2) as usize;
+        copy(
+            data,
+            PAGE * page,
+            l,
+            HEADER + CHANGE * n + PAGE * i,
+            u32_at(l, at + 4),
+        );
+    }
+}
+
+// Replaces the page of every entry of this account.
+fn apply_entries(l: &[u8], a: Account, data: &mut [u8])
+    requires { ⌜ listGood (now l) a (length (now «data»)) ≡ true ⌝ }
+    ensures { λ _. ⌜ now («data» .exit) ≡ applied (now (l .entry)) a (now («data» .entry)) (listCount (now (l .entry))) ⌝ }
+{
+    let n = u32_at(l, 0);
+    let mut i = 0;
+    while i < n {
+        apply_entry(l, a, data, i);
+        i += 1;
+    }
+}
+
+// Applies a change list to an account's data. A bad list changes no byte.
+pub fn apply(l: &[u8], a: Account, data: &mut [u8]) -> u8
+    ensures { λ r. ⌜ r ≡ applyNumber (now (l .entry)) a (now («data» .entry)) ⌝ }
+    ensures { λ _. ⌜ now («data» .exit) ≡ applyData (now (l .entry)) a (now («data» .entry)) ⌝ }
+{
+    if layout_exact(l) {
+        if changes_good(l, a, data.len()) {
+            apply_entries(l, a, data);
+            return DONE;
+        }
+        return number(Refusal::BadList);
+    }
+    number(Refusal::BadList)
+}
