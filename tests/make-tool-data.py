@@ -1,5 +1,5 @@
 #!/usr/bin/env python3
-"""Writes what the tool is run on: crates/hekthumar_tool/data/* and tests/tool/data/*."""
+"""Writes what the tool is run on: crates/hekthumar_tool/data/*, crates/tool_cases/data/* and tests/tool/data/*."""
 import os
 import struct
 
@@ -8,6 +8,7 @@ from layouts import account, control, data_at, entry, record, snapshot
 here = os.path.dirname(os.path.abspath(__file__))
 run_data = os.path.join(here, "..", "crates", "hekthumar_tool", "data")
 test_data = os.path.join(here, "tool", "data")
+case_data = os.path.join(here, "..", "crates", "tool_cases", "data")
 
 
 def mill():
@@ -158,3 +159,7 @@ write(test_data, "script-kind", b"begin 0\ntranslate jump 0 1\n")
 write(test_data, "script-edges", b"begin 0\r\nload 18446744073709551615 1\nload 18446744073709551616 1\n")
 write(test_data, "script-saves", b"begin 0\nstore 0x0300_0100_1004 1 0x11\nsave-control kept-control\nsave-list kept-list\n")
 write(test_data, "script-no-frames", b"frames 0\nbegin 0\nstore 0x030001000000 1 1\nheap 1\nmap\n")
+
+for name in ["control", "control-invocations", "control-heap", "list", "list-order", "list-live", "slots"]:
+    with open(os.path.join(test_data, name), "rb") as f:
+        write(case_data, name, f.read())

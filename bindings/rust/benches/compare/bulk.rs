@@ -67,7 +67,7 @@ pub fn resizes(report: &mut Report) {
             },
             &mut |n| {
                 repeat(n, || {
-                    let _ = black_box(plain_bulk::resize(&right.s, &mut right.c, &mut right.p, region, pages));
+                    black_box(plain_bulk::resize(&right.s, &mut right.c, &mut right.p, region, pages));
                     plain_bulk::resize(&right.s, &mut right.c, &mut right.p, region, 0)
                 })
             },

@@ -1,7 +1,9 @@
-//! The same operations in safe Rust over the same buffers, as a host's engineer would write them for speed. They stay out of line, as the
-//! library's do.
+//! The same operations in safe Rust over the same buffers, as a host's engineer would write them for speed. They stay out of line and answer
+//! in the same types, as the library's do.
 
 use crate::plain_words::{put_u16, put_u32, u16_at, u32_at, u64_at};
+use hekthumar::sys::{self, Value, View};
+use hekthumar::Kind;
 
 pub const PAGE: usize = 4096;
 const RECORDS: usize = 16;
@@ -10,9 +12,14 @@ pub const TABLE: usize = 4504;
 const ENTRY: usize = 80;
 pub const MAX_DATA: usize = 1 << 24;
 
+/// The number of a result.
+pub fn number(result: Result<(), u8>) -> u8 {
+    result.err().unwrap_or(0)
+}
+
 /// Where an access goes.
-#[derive(Clone, Copy, Debug, PartialEq, Eq)]
-pub enum Place {
+#[derive(Clone, Copy)]
+enum Place {
     Snapshot(usize),
     Control(usize),
     Zeros,
@@ -20,23 +27,12 @@ pub enum Place {
     Take { frame: usize, account: usize, page: usize },
 }
 
-#[derive(Clone, Copy, PartialEq, Eq)]
-pub enum Kind {
-    Load,
-    Store,
-    Fetch,
-    LoadSpan,
-    StoreSpan,
+fn stores(kind: Kind) -> bool {
+    matches!(kind, Kind::Store | Kind::StoreSpan)
 }
 
-impl Kind {
-    fn stores(self) -> bool {
-        matches!(self, Kind::Store | Kind::StoreSpan)
-    }
-
-    fn is_span(self) -> bool {
-        matches!(self, Kind::LoadSpan | Kind::StoreSpan)
-    }
+fn is_span(kind: Kind) -> bool {
+    matches!(kind, Kind::LoadSpan | Kind::StoreSpan)
 }
 
 /// The counts and offsets that every call needs, once all headers are tested.
@@ -140,7 +136,7 @@ fn in_region(c: &[u8], v: Vm, usage: u8, kind: Kind, offset: usize, length: usiz
         return Err(3);
     }
     let frame = region_frame(c, usage, offset / PAGE).ok_or(1)?;
-    if kind.stores() && (c[TABLE + 8 * frame + 1] as usize) < v.depth {
+    if stores(kind) && (c[TABLE + 8 * frame + 1] as usize) < v.depth {
         return Err(7);
     }
     Ok(Place::Pool(PAGE * frame + offset % PAGE))
@@ -153,7 +149,7 @@ fn in_account(s: &[u8], c: &[u8], v: Vm, kind: Kind, index: usize, offset: usize
     let a = account(s, v.data_at, index)?;
     aligned(kind, offset, length)?;
     let owned = a.flags & 2 != 0 && a.owner == u16_at(&c[v.record..], 0);
-    if kind == Kind::Fetch || kind.stores() && !owned {
+    if kind == Kind::Fetch || stores(kind) && !owned {
         return Err(7);
     }
     within_page(offset, length)?;
@@ -163,13 +159,13 @@ fn in_account(s: &[u8], c: &[u8], v: Vm, kind: Kind, index: usize, offset: usize
     let page = offset / PAGE;
     match copy_of(c, index, page) {
         Some(frame) => Ok(Place::Pool(PAGE * frame + offset % PAGE)),
-        None if kind.stores() => Ok(Place::Take { frame: free_frame(c).ok_or(8)?, account: index, page }),
+        None if stores(kind) => Ok(Place::Take { frame: free_frame(c).ok_or(8)?, account: index, page }),
         None => Ok(Place::Snapshot(a.data + offset)),
     }
 }
 
 fn aligned(kind: Kind, offset: usize, length: usize) -> Result<(), u8> {
-    if !kind.is_span() && offset & (length - 1) != 0 {
+    if !is_span(kind) && offset & (length - 1) != 0 {
         return Err(5);
     }
     Ok(())
@@ -185,7 +181,7 @@ fn within_page(offset: usize, length: usize) -> Result<(), u8> {
 /// Present bytes of a row that is never stored to, counted from the row's start, and where they lie.
 fn fixed(kind: Kind, fetched: bool, offset: usize, length: usize, present: usize, place: Place) -> Result<Place, u8> {
     aligned(kind, offset, length)?;
-    if kind.stores() || kind == Kind::Fetch && !fetched {
+    if stores(kind) || kind == Kind::Fetch && !fetched {
         return Err(7);
     }
     within_page(offset, length)?;
@@ -213,10 +209,9 @@ fn in_vm_segment(s: &[u8], c: &[u8], v: Vm, kind: Kind, index: usize, offset: us
     }
 }
 
-#[inline(never)]
-pub fn translate(s: &[u8], c: &[u8], p: &[u8], kind: Kind, address: u64, length: usize) -> Result<Place, u8> {
+fn find_place(s: &[u8], c: &[u8], p: &[u8], kind: Kind, address: u64, length: usize) -> Result<Place, u8> {
     let v = vm(s, c, p)?;
-    let counted = if kind.is_span() { (1..=PAGE).contains(&length) } else { matches!(length, 1 | 2 | 4 | 8) };
+    let counted = if is_span(kind) { (1..=PAGE).contains(&length) } else { matches!(length, 1 | 2 | 4 | 8) };
     if !counted {
         return Err(2);
     }
@@ -253,28 +248,46 @@ fn read(bytes: &[u8], at: usize, size: usize) -> u64 {
     }
 }
 
-fn load_kind(s: &[u8], c: &[u8], p: &[u8], kind: Kind, address: u64, size: usize) -> Result<u64, u8> {
-    Ok(match translate(s, c, p, kind, address, size)? {
-        Place::Snapshot(at) => read(s, at, size),
-        Place::Control(at) => read(c, at, size),
-        Place::Pool(at) => read(p, at, size),
-        Place::Zeros | Place::Take { .. } => 0,
-    })
+#[inline(never)]
+pub fn translate(s: &[u8], c: &[u8], p: &[u8], kind: Kind, address: u64, length: usize) -> sys::Place {
+    let nowhere = sys::Place { at: 0, frame: 0, account: 0, page: 0, place: 0, number: 0 };
+    match find_place(s, c, p, kind, address, length) {
+        Ok(Place::Snapshot(at)) => sys::Place { at: at as u64, place: 1, ..nowhere },
+        Ok(Place::Control(at)) => sys::Place { at: at as u64, place: 2, ..nowhere },
+        Ok(Place::Zeros) => sys::Place { place: 3, ..nowhere },
+        Ok(Place::Pool(at)) => sys::Place { at: at as u64, place: 4, ..nowhere },
+        Ok(Place::Take { frame, account, page }) => {
+            let at = PAGE * frame + address as usize % PAGE;
+            sys::Place { at: at as u64, frame: frame as u16, account: account as u16, page: page as u16, place: 5, number: 0 }
+        }
+        Err(number) => sys::Place { number, ..nowhere },
+    }
+}
+
+fn load_kind(s: &[u8], c: &[u8], p: &[u8], kind: Kind, address: u64, size: usize) -> Value {
+    let value = match find_place(s, c, p, kind, address, size) {
+        Ok(Place::Snapshot(at)) => read(s, at, size),
+        Ok(Place::Control(at)) => read(c, at, size),
+        Ok(Place::Pool(at)) => read(p, at, size),
+        Ok(Place::Zeros | Place::Take { .. }) => 0,
+        Err(number) => return Value { value: 0, number },
+    };
+    Value { value, number: 0 }
 }
 
 #[inline(never)]
-pub fn load(s: &[u8], c: &[u8], p: &[u8], address: u64, size: usize) -> Result<u64, u8> {
+pub fn load(s: &[u8], c: &[u8], p: &[u8], address: u64, size: usize) -> Value {
     load_kind(s, c, p, Kind::Load, address, size)
 }
 
 #[inline(never)]
-pub fn fetch(s: &[u8], c: &[u8], p: &[u8], address: u64, size: usize) -> Result<u64, u8> {
+pub fn fetch(s: &[u8], c: &[u8], p: &[u8], address: u64, size: usize) -> Value {
     load_kind(s, c, p, Kind::Fetch, address, size)
 }
 
 /// Makes sure that the page may be written, and says where in the pool the access goes.
 fn writable_at(s: &[u8], c: &mut [u8], p: &mut [u8], kind: Kind, address: u64, length: usize) -> Result<usize, u8> {
-    match translate(s, c, p, kind, address, length)? {
+    match find_place(s, c, p, kind, address, length)? {
         Place::Pool(at) => Ok(at),
         Place::Take { frame, account: i, page } => {
             let e = &mut c[TABLE + 8 * frame..][..8];
@@ -292,7 +305,11 @@ fn writable_at(s: &[u8], c: &mut [u8], p: &mut [u8], kind: Kind, address: u64, l
 }
 
 #[inline(never)]
-pub fn store(s: &[u8], c: &mut [u8], p: &mut [u8], address: u64, size: usize, value: u64) -> Result<(), u8> {
+pub fn store(s: &[u8], c: &mut [u8], p: &mut [u8], address: u64, size: usize, value: u64) -> u8 {
+    number(try_store(s, c, p, address, size, value))
+}
+
+fn try_store(s: &[u8], c: &mut [u8], p: &mut [u8], address: u64, size: usize, value: u64) -> Result<(), u8> {
     let at = writable_at(s, c, p, Kind::Store, address, size)?;
     let bytes = value.to_le_bytes();
     match size {
@@ -305,9 +322,13 @@ pub fn store(s: &[u8], c: &mut [u8], p: &mut [u8], address: u64, size: usize, va
 }
 
 #[inline(never)]
-pub fn load_span(s: &[u8], c: &[u8], p: &[u8], address: u64, out: &mut [u8]) -> Result<(), u8> {
+pub fn load_span(s: &[u8], c: &[u8], p: &[u8], address: u64, out: &mut [u8]) -> u8 {
+    number(try_load_span(s, c, p, address, out))
+}
+
+fn try_load_span(s: &[u8], c: &[u8], p: &[u8], address: u64, out: &mut [u8]) -> Result<(), u8> {
     let n = out.len();
-    match translate(s, c, p, Kind::LoadSpan, address, n)? {
+    match find_place(s, c, p, Kind::LoadSpan, address, n)? {
         Place::Snapshot(at) => out.copy_from_slice(&s[at..at + n]),
         Place::Control(at) => out.copy_from_slice(&c[at..at + n]),
         Place::Pool(at) => out.copy_from_slice(&p[at..at + n]),
@@ -317,14 +338,25 @@ pub fn load_span(s: &[u8], c: &[u8], p: &[u8], address: u64, out: &mut [u8]) -> 
 }
 
 #[inline(never)]
-pub fn store_span(s: &[u8], c: &mut [u8], p: &mut [u8], address: u64, bytes: &[u8]) -> Result<(), u8> {
+pub fn store_span(s: &[u8], c: &mut [u8], p: &mut [u8], address: u64, bytes: &[u8]) -> u8 {
+    number(try_store_span(s, c, p, address, bytes))
+}
+
+fn try_store_span(s: &[u8], c: &mut [u8], p: &mut [u8], address: u64, bytes: &[u8]) -> Result<(), u8> {
     let at = writable_at(s, c, p, Kind::StoreSpan, address, bytes.len())?;
     p[at..at + bytes.len()].copy_from_slice(bytes);
     Ok(())
 }
 
 #[inline(never)]
-pub fn page_view(s: &[u8], c: &[u8], p: &[u8], index: usize, page: usize) -> Result<(bool, usize, usize), u8> {
+pub fn page_view(s: &[u8], c: &[u8], p: &[u8], index: usize, page: usize) -> View {
+    match find_view(s, c, p, index, page) {
+        Ok((holder, start, length)) => View { start: start as u64, length: length as u64, holder, number: 0 },
+        Err(number) => View { start: 0, length: 0, holder: 0, number },
+    }
+}
+
+fn find_view(s: &[u8], c: &[u8], p: &[u8], index: usize, page: usize) -> Result<(u8, usize, usize), u8> {
     let v = vm(s, c, p)?;
     if index >= v.accounts {
         return Err(4);
@@ -335,8 +367,8 @@ pub fn page_view(s: &[u8], c: &[u8], p: &[u8], index: usize, page: usize) -> Res
     }
     let live = (a.length - PAGE * page).min(PAGE);
     Ok(match copy_of(c, index, page) {
-        Some(frame) => (true, PAGE * frame, live),
-        None => (false, a.data + PAGE * page, live),
+        Some(frame) => (2, PAGE * frame, live),
+        None => (1, a.data + PAGE * page, live),
     })
 }
 
@@ -351,7 +383,11 @@ fn program(s: &[u8], accounts: usize, data_at: usize, program: u16) -> Result<()
 }
 
 #[inline(never)]
-pub fn begin(s: &[u8], c: &mut [u8], p: &[u8], program_account: u16) -> Result<(), u8> {
+pub fn begin(s: &[u8], c: &mut [u8], p: &[u8], program_account: u16) -> u8 {
+    number(try_begin(s, c, p, program_account))
+}
+
+fn try_begin(s: &[u8], c: &mut [u8], p: &[u8], program_account: u16) -> Result<(), u8> {
     let (accounts, _, _, data_at) = snapshot_valid(s).ok_or(1)?;
     let frames = p.len() / PAGE;
     if frames > 1024 || !p.len().is_multiple_of(PAGE) || c.len() != TABLE + 8 * frames {
@@ -367,7 +403,11 @@ pub fn begin(s: &[u8], c: &mut [u8], p: &[u8], program_account: u16) -> Result<(
 }
 
 #[inline(never)]
-pub fn call(s: &[u8], c: &mut [u8], p: &[u8], program_account: u16, registers: &[u8]) -> Result<(), u8> {
+pub fn call(s: &[u8], c: &mut [u8], p: &[u8], program_account: u16, registers: &[u8]) -> u8 {
+    number(try_call(s, c, p, program_account, registers))
+}
+
+fn try_call(s: &[u8], c: &mut [u8], p: &[u8], program_account: u16, registers: &[u8]) -> Result<(), u8> {
     let v = vm(s, c, p)?;
     if registers.len() != 256 {
         return Err(2);
@@ -386,7 +426,11 @@ pub fn call(s: &[u8], c: &mut [u8], p: &[u8], program_account: u16, registers: &
 }
 
 #[inline(never)]
-pub fn return_from(s: &[u8], c: &mut [u8], p: &[u8], registers: &mut [u8]) -> Result<(), u8> {
+pub fn return_from(s: &[u8], c: &mut [u8], p: &[u8], registers: &mut [u8]) -> u8 {
+    number(try_return_from(s, c, p, registers))
+}
+
+fn try_return_from(s: &[u8], c: &mut [u8], p: &[u8], registers: &mut [u8]) -> Result<(), u8> {
     let v = vm(s, c, p)?;
     if registers.len() != 256 {
         return Err(2);

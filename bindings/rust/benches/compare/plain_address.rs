@@ -1,17 +1,19 @@
 //! Addresses in safe Rust.
 
+use hekthumar::sys::{Fields, Joined};
+
 #[inline(never)]
-pub fn join(segment: u8, index: u16, offset: u32) -> Result<u64, u8> {
+pub fn join(segment: u8, index: u16, offset: u32) -> Joined {
     if offset >= 1 << 24 {
-        return Err(3);
+        return Joined { address: 0, number: 3 };
     }
-    Ok(u64::from(segment) << 40 | u64::from(index) << 24 | u64::from(offset))
+    Joined { address: u64::from(segment) << 40 | u64::from(index) << 24 | u64::from(offset), number: 0 }
 }
 
 #[inline(never)]
-pub fn split(address: u64) -> Result<(u8, u16, u32), u8> {
+pub fn split(address: u64) -> Fields {
     if address >> 48 != 0 {
-        return Err(3);
+        return Fields { offset: 0, index: 0, segment: 0, number: 3 };
     }
-    Ok(((address >> 40) as u8, (address >> 24) as u16, address as u32 & 0xFF_FFFF))
+    Fields { offset: address as u32 & 0xFF_FFFF, index: (address >> 24) as u16, segment: (address >> 40) as u8, number: 0 }
 }

@@ -1,6 +1,6 @@
 //! The operations on many pages, in safe Rust: resize, the change list, its application.
 
-use crate::plain::{account, vm, MAX_DATA, PAGE, TABLE};
+use crate::plain::{account, number, vm, MAX_DATA, PAGE, TABLE};
 use crate::plain_words::{put_u16, put_u32, u16_at, u32_at};
 
 const HEADER: usize = 16;
@@ -51,7 +51,11 @@ fn shrink(c: &mut [u8], region: u8, depth: usize, from: usize, to: usize) -> Res
 }
 
 #[inline(never)]
-pub fn resize(s: &[u8], c: &mut [u8], p: &mut [u8], region: u8, pages: usize) -> Result<(), u8> {
+pub fn resize(s: &[u8], c: &mut [u8], p: &mut [u8], region: u8, pages: usize) -> u8 {
+    number(try_resize(s, c, p, region, pages))
+}
+
+fn try_resize(s: &[u8], c: &mut [u8], p: &mut [u8], region: u8, pages: usize) -> Result<(), u8> {
     let v = vm(s, c, p)?;
     if region != 2 && region != 3 {
         return Err(2);
@@ -85,7 +89,11 @@ fn claimed(c: &[u8]) -> ([u64; 1024], usize) {
 }
 
 #[inline(never)]
-pub fn change_list(s: &[u8], c: &[u8], p: &[u8], out: &mut [u8]) -> Result<(), u8> {
+pub fn change_list(s: &[u8], c: &[u8], p: &[u8], out: &mut [u8]) -> u8 {
+    number(try_change_list(s, c, p, out))
+}
+
+fn try_change_list(s: &[u8], c: &[u8], p: &[u8], out: &mut [u8]) -> Result<(), u8> {
     let v = vm(s, c, p)?;
     let (keys, n) = claimed(c);
     let keys = &keys[..n];
@@ -136,7 +144,11 @@ fn list_good(list: &[u8], n: usize, account: u16, data_len: usize) -> bool {
 }
 
 #[inline(never)]
-pub fn apply(list: &[u8], account: u16, data: &mut [u8]) -> Result<(), u8> {
+pub fn apply(list: &[u8], account: u16, data: &mut [u8]) -> u8 {
+    number(try_apply(list, account, data))
+}
+
+fn try_apply(list: &[u8], account: u16, data: &mut [u8]) -> Result<(), u8> {
     let h: &[u8; HEADER] = list.first_chunk().ok_or(12)?;
     let n = u32_at(h, 0) as usize;
     let total = HEADER + 4104 * n;

@@ -1,11 +1,10 @@
 //! Operations on one place: addresses, loads, stores, refusals, invocations.
 
-use crate::plain::{self, Kind};
 use crate::table::Report;
 use crate::timing::repeat;
 use crate::world::{slot, World, HEAP, STACK};
-use crate::{library, plain_address};
-use hekthumar::sys;
+use crate::{library, plain, plain_address};
+use hekthumar::{sys, Kind};
 use std::hint::black_box;
 
 pub fn addresses(report: &mut Report) {
@@ -20,18 +19,10 @@ pub fn addresses(report: &mut Report) {
 
 /// A row for a load, refused or not; both sides must give the same first.
 fn load_row(report: &mut Report, name: &str, w: &World, address: u64, size: usize) {
-    let given = library::load(&w.s, &w.c, &w.p, address, size);
-    assert_eq!(plain::load(&w.s, &w.c, &w.p, address, size).map_err(|number| (0, number)), as_result(given), "{name}");
+    assert_eq!(plain::load(&w.s, &w.c, &w.p, address, size), library::load(&w.s, &w.c, &w.p, address, size), "{name}");
     report.row(name, &mut |n| repeat(n, || library::load(&w.s, &w.c, &w.p, black_box(address), size)), &mut |n| {
         repeat(n, || plain::load(&w.s, &w.c, &w.p, black_box(address), size))
     });
-}
-
-fn as_result(given: sys::Value) -> Result<u64, (u64, u8)> {
-    match given.number {
-        0 => Ok(given.value),
-        number => Err((given.value, number)),
-    }
 }
 
 pub fn loads(report: &mut Report) {
@@ -56,7 +47,7 @@ pub fn loads(report: &mut Report) {
 
 fn fetches(report: &mut Report, w: &World) {
     let address = 0x0000_0300_0040;
-    assert_eq!(plain::fetch(&w.s, &w.c, &w.p, address, 4), Ok(library::fetch(&w.s, &w.c, &w.p, address, 4).value));
+    assert_eq!(plain::fetch(&w.s, &w.c, &w.p, address, 4), library::fetch(&w.s, &w.c, &w.p, address, 4));
     report.row("fetch 4", &mut |n| repeat(n, || library::fetch(&w.s, &w.c, &w.p, black_box(address), 4)), &mut |n| {
         repeat(n, || plain::fetch(&w.s, &w.c, &w.p, black_box(address), 4))
     });
@@ -64,9 +55,7 @@ fn fetches(report: &mut Report, w: &World) {
 
 fn translations(report: &mut Report, w: &World) {
     let address = slot(4096 * 50);
-    let place = library::translate(&w.s, &w.c, &w.p, 1, address, 8);
-    let take = plain::Place::Take { frame: place.frame as usize, account: place.account as usize, page: place.page as usize };
-    assert_eq!(plain::translate(&w.s, &w.c, &w.p, Kind::Store, address, 8), Ok(take));
+    assert_eq!(plain::translate(&w.s, &w.c, &w.p, Kind::Store, address, 8), library::translate(&w.s, &w.c, &w.p, 1, address, 8));
     report.row(
         "translate a store without a copy",
         &mut |n| repeat(n, || library::translate(&w.s, &w.c, &w.p, 1, black_box(address), 8)),
@@ -75,8 +64,7 @@ fn translations(report: &mut Report, w: &World) {
 }
 
 fn views(report: &mut Report, w: &World) {
-    let view = library::page_view(&w.s, &w.c, &w.p, 1, 7);
-    assert_eq!(plain::page_view(&w.s, &w.c, &w.p, 1, 7), Ok((true, view.start as usize, view.length as usize)));
+    assert_eq!(plain::page_view(&w.s, &w.c, &w.p, 1, 7), library::page_view(&w.s, &w.c, &w.p, 1, 7));
     report.row("page view of a copy", &mut |n| repeat(n, || library::page_view(&w.s, &w.c, &w.p, 1, black_box(7))), &mut |n| {
         repeat(n, || plain::page_view(&w.s, &w.c, &w.p, 1, black_box(7)))
     });
@@ -127,7 +115,7 @@ pub fn invocations(report: &mut Report) {
             },
             &mut |n| {
                 repeat(n, || {
-                    let _ = black_box(plain::call(&right.s, &mut right.c, &right.p, 0, &registers));
+                    black_box(plain::call(&right.s, &mut right.c, &right.p, 0, &registers));
                     plain::return_from(&right.s, &mut right.c, &right.p, &mut two)
                 })
             },
