@@ -1,19 +1,20 @@
-//! Links `libhekthumar.a`. The archive is looked for in the folder that HEKTHUMAR_LIB_DIR names, else in the repository's
-//! `target/staticlib`, where `rt staticlib hekthumar` puts it; if it is not there, that command is run.
+//! Links `libhekthumar.a`: that in the folder that HEKTHUMAR_LIB_DIR names, else the one kept in the repository's `lib/`, which is for
+//! x86-64 Linux.
 
 use std::path::{Path, PathBuf};
-use std::process::Command;
 
 const ARCHIVE: &str = "libhekthumar.a";
+const OTHER: &str =
+    "HEKTHUMAR_LIB_DIR names a folder with another; `rt staticlib hekthumar` of the Rattle kit writes one to target/staticlib";
 
 fn main() {
     println!("cargo:rerun-if-env-changed=HEKTHUMAR_LIB_DIR");
     let folder = match std::env::var_os("HEKTHUMAR_LIB_DIR") {
         Some(folder) => PathBuf::from(folder),
-        None => built_archive(),
+        None => kept_archive(),
     };
     let archive = folder.join(ARCHIVE);
-    assert!(archive.is_file(), "there is no {}", archive.display());
+    assert!(archive.is_file(), "there is no {}: {OTHER}", archive.display());
     println!("cargo:rerun-if-changed={}", archive.display());
     // for the tests that link a host in C
     println!("cargo:rustc-env=HEKTHUMAR_ARCHIVE={}", archive.display());
@@ -21,14 +22,11 @@ fn main() {
     println!("cargo:rustc-link-lib=static=hekthumar");
 }
 
-/// The repository's folder of archives, with the archive in it.
-fn built_archive() -> PathBuf {
-    let root = Path::new(env!("CARGO_MANIFEST_DIR")).join("../..");
-    let folder = root.join("target/staticlib");
-    if !folder.join(ARCHIVE).is_file() {
-        let status = Command::new("rt").args(["staticlib", "hekthumar"]).current_dir(&root).status();
-        let built = status.map(|s| s.success()).unwrap_or(false);
-        assert!(built, "`rt staticlib hekthumar` failed; the Rattle kit is needed to build the archive");
-    }
-    folder
+/// The repository's folder with the archive for x86-64 Linux.
+fn kept_archive() -> PathBuf {
+    let of_target = |what: &str| std::env::var(format!("CARGO_CFG_TARGET_{what}")).unwrap_or_default();
+    let target = (of_target("ARCH"), of_target("OS"));
+    let kept = ("x86_64".to_string(), "linux".to_string());
+    assert!(target == kept, "the archive in lib/ is for x86-64 Linux, and this is built for {} {}: {OTHER}", target.0, target.1);
+    Path::new(env!("CARGO_MANIFEST_DIR")).join("../../lib")
 }

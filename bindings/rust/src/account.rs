@@ -1,8 +1,7 @@
 //! An account of a snapshot to be built.
 
-/// Flag of an account that exists.
-pub(crate) const EXISTS: u16 = 1;
-const WRITABLE: u16 = 2;
+use crate::inspect::{EXISTS, WRITABLE};
+use crate::layout::METADATA;
 
 /// An account to be put into a snapshot with [`SnapshotBuilder::account`](crate::SnapshotBuilder::account).
 ///
@@ -18,7 +17,7 @@ pub struct Account {
     flags: u16,
     owner: u16,
     pub(crate) data: Vec<u8>,
-    metadata: [u8; 64],
+    metadata: [u8; METADATA],
 }
 
 impl Account {
@@ -30,12 +29,12 @@ impl Account {
     /// An account with data, owned by the program with this account number. The owner may store to it once it is
     /// [writable](Account::writable).
     pub fn data(owner: u16, bytes: impl Into<Vec<u8>>) -> Account {
-        Account { flags: EXISTS, owner, data: bytes.into(), metadata: [0; 64] }
+        Account { flags: EXISTS, owner, data: bytes.into(), metadata: [0; METADATA] }
     }
 
     /// An account number without an account behind it: no data, metadata of zeros.
     pub fn absent() -> Account {
-        Account { flags: 0, owner: 0, data: Vec::new(), metadata: [0; 64] }
+        Account { flags: 0, owner: 0, data: Vec::new(), metadata: [0; METADATA] }
     }
 
     /// Lets the owner store to the account.
@@ -44,7 +43,7 @@ impl Account {
     }
 
     /// Sets the account's metadata, which is zeros otherwise.
-    pub fn metadata(self, metadata: [u8; 64]) -> Account {
+    pub fn metadata(self, metadata: [u8; METADATA]) -> Account {
         Account { metadata, ..self }
     }
 

@@ -1,11 +1,10 @@
 //! The list of changed pages.
 
+use crate::inspect::{ListEntry, ListHeader};
+use crate::layout::{LIST_ENTRY, LIST_HEADER};
 use crate::refusal::check;
-use crate::{sys, Refusal, PAGE};
+use crate::{change_list_len, sys, Refusal, PAGE};
 use std::fmt;
-
-const HEADER: usize = 16;
-const ENTRY: usize = 8;
 
 /// A well-formed list of changed account pages, in ascending order of account and page, each once.
 ///
@@ -35,7 +34,7 @@ const ENTRY: usize = 8;
 #[derive(Clone, Copy, PartialEq, Eq)]
 pub struct ChangeList<'a> {
     bytes: &'a [u8],
-    entries: &'a [[u8; ENTRY]],
+    entries: &'a [[u8; LIST_ENTRY]],
     pages: &'a [[u8; PAGE]],
 }
 
@@ -69,8 +68,8 @@ impl<'a> ChangeList<'a> {
     /// The pages in order.
     pub fn entries(&self) -> impl ExactSizeIterator<Item = Change<'a>> + 'a {
         self.entries.iter().zip(self.pages).map(|(entry, bytes)| {
-            let (account, page, live) = decode(entry);
-            Change { account, page, live: &bytes[..live] }
+            let ListEntry { account, page, live } = ListEntry::decode(entry);
+            Change { account, page, live: &bytes[..live as usize] }
         })
     }
 
@@ -87,22 +86,20 @@ impl<'a> ChangeList<'a> {
 
     /// The parts of the list that the header announces, if it is right and they are all there.
     fn split(bytes: &'a [u8]) -> Option<ChangeList<'a>> {
-        let (header, _) = bytes.split_first_chunk::<HEADER>()?;
-        let words = header.as_chunks().0;
-        let [count, table_at, pages_at, total] = [0, 1, 2, 3].map(|i| u64::from(u32::from_le_bytes(words[i])));
-        // In 64 bits, where no count overflows.
-        if [table_at, pages_at, total] != [16, 16 + 8 * count, 16 + 4_104 * count] {
+        let header = ListHeader::read(bytes)?;
+        let (count, total) = (header.pages as usize, header.total as usize);
+        let pages_at = LIST_HEADER + LIST_ENTRY * count;
+        if [header.entries_at as usize, header.pages_at as usize, total] != [LIST_HEADER, pages_at, change_list_len(count)] {
             return None;
         }
-        let bytes = bytes.get(..total as usize)?;
-        let (table, pages) = bytes[HEADER..].split_at(ENTRY * count as usize);
-        Some(ChangeList { bytes, entries: table.as_chunks().0, pages: pages.as_chunks().0 })
+        let bytes = bytes.get(..total)?;
+        Some(ChangeList { bytes, entries: bytes[LIST_HEADER..pages_at].as_chunks().0, pages: bytes[pages_at..].as_chunks().0 })
     }
 
     fn entries_are_valid(&self) -> bool {
-        let entries = || self.entries.iter().map(decode);
-        let keys = entries().map(|(account, page, _)| (account, page));
-        keys.is_sorted_by(|key, next| key < next) && entries().all(|(_, _, live)| (1..=PAGE).contains(&live))
+        let entries = || self.entries.iter().map(ListEntry::decode);
+        let keys = entries().map(|entry| (entry.account, entry.page));
+        keys.is_sorted_by(|key, next| key < next) && entries().all(|entry| (1..=PAGE).contains(&(entry.live as usize)))
     }
 }
 
@@ -110,12 +107,6 @@ impl fmt::Debug for ChangeList<'_> {
     fn fmt(&self, f: &mut fmt::Formatter<'_>) -> fmt::Result {
         f.debug_list().entries(self.entries()).finish()
     }
-}
-
-/// Account, page and number of live bytes.
-fn decode(entry: &[u8; ENTRY]) -> (u16, u16, usize) {
-    let [a0, a1, p0, p1, live @ ..] = *entry;
-    (u16::from_le_bytes([a0, a1]), u16::from_le_bytes([p0, p1]), u32::from_le_bytes(live) as usize)
 }
 
 /// [`ChangeList::apply`] for a list that is still bytes. [`Refusal::BadChangeList`] also if the list is malformed.

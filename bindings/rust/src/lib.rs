@@ -25,11 +25,12 @@
 mod account;
 mod address;
 mod changes;
+pub mod inspect;
+pub mod layout;
 mod memory;
 mod place;
 mod refusal;
 mod segment;
-mod sizes;
 mod snapshot;
 #[allow(missing_docs)]
 pub mod sys;
@@ -38,9 +39,9 @@ mod typed;
 pub use account::Account;
 pub use address::{Address, Fields};
 pub use changes::{apply, Change, ChangeList};
+pub use layout::{change_list_len, control_len, pool_len, PAGE};
 pub use memory::{Memory, Registers};
-pub use place::{Kind, Place, Region};
+pub use place::{Kind, PagePlace, Place, Region};
 pub use refusal::Refusal;
 pub use segment::Segment;
-pub use sizes::{change_list_len, control_len, pool_len, PAGE};
 pub use snapshot::{account_data, BuildError, SnapshotBuilder};

@@ -1,7 +1,7 @@
 //! The three lent buffers and the calls on them.
 
 use crate::refusal::check;
-use crate::{sys, Address, ChangeList, Kind, Place, Refusal, Region};
+use crate::{sys, Address, ChangeList, Kind, PagePlace, Place, Refusal, Region};
 use std::fmt;
 
 /// The 32 registers of an invocation, 8 bytes each.
@@ -167,14 +167,15 @@ impl<'a> Memory<'a> {
     /// # Ok::<(), Refusal>(())
     /// ```
     pub fn page_view(&self, account: u16, page: u16) -> Result<&[u8], Refusal> {
-        let view = lend!(as_ptr, self, hekthumar_page_view(account, page));
-        check(view.number)?;
-        let holder = match view.holder {
-            1 => self.snapshot,
-            2 => &*self.pool,
-            other => unreachable!("the library has no holder {other}"),
-        };
-        Ok(&holder[view.start as usize..][..view.length as usize])
+        Ok(match self.page_place(account, page)? {
+            PagePlace::Snapshot(part) => &self.snapshot[part],
+            PagePlace::Pool(part) => &self.pool[part],
+        })
+    }
+
+    /// Which part of which buffer [`Memory::page_view`] gives. Refused as that is.
+    pub fn page_place(&self, account: u16, page: u16) -> Result<PagePlace, Refusal> {
+        PagePlace::from_raw(lend!(as_ptr, self, hekthumar_page_view(account, page)))
     }
 
     /// The three buffers: snapshot, control, pool.

@@ -2,6 +2,7 @@
 
 use crate::refusal::check;
 use crate::{sys, Refusal};
+use std::ops::Range;
 
 /// The kind of an access.
 #[repr(u8)]
@@ -73,6 +74,27 @@ impl Place {
             4 => Place::Pool { at },
             5 => Place::Take { at, frame: raw.frame, account: raw.account, page: raw.page },
             other => unreachable!("the library has no place {other}"),
+        })
+    }
+}
+
+/// Where the bytes of an account's page lie.
+#[derive(Clone, Debug, PartialEq, Eq, Hash)]
+pub enum PagePlace {
+    /// This part of the snapshot: the page was not stored to.
+    Snapshot(Range<usize>),
+    /// This part of the pool, the copy that stores go to.
+    Pool(Range<usize>),
+}
+
+impl PagePlace {
+    pub(crate) fn from_raw(raw: sys::View) -> Result<PagePlace, Refusal> {
+        check(raw.number)?;
+        let part = raw.start as usize..(raw.start + raw.length) as usize;
+        Ok(match raw.holder {
+            1 => PagePlace::Snapshot(part),
+            2 => PagePlace::Pool(part),
+            other => unreachable!("the library has no holder {other}"),
         })
     }
 }

@@ -1,17 +1,9 @@
 //! The read-only buffer: built from its parts, and asked for an account's data.
 
-use crate::account::EXISTS;
+use crate::inspect::AccountEntry;
+use crate::layout::*;
 use crate::Account;
 use std::fmt;
-
-const HEADER: usize = 32;
-const ENTRY: usize = 80;
-const CONTEXT: usize = 120;
-
-const MAX_ACCOUNTS: usize = 64;
-const MAX_CONTEXTS: usize = 512;
-const MAX_TRANSACTION: usize = 65_536;
-const MAX_DATA: usize = 1 << 24;
 
 /// Puts a snapshot together, so that a host writes no offset by hand.
 ///
@@ -61,14 +53,14 @@ impl SnapshotBuilder {
     /// The snapshot's bytes. Its own limit of 2^31 bytes cannot be reached within the limits of its parts.
     pub fn build(&self) -> Result<Vec<u8>, BuildError> {
         self.check_limits()?;
-        let contexts_at = HEADER + ENTRY * self.accounts.len();
+        let contexts_at = SNAPSHOT_HEADER + ACCOUNT_ENTRY * self.accounts.len();
         let transaction_at = contexts_at + CONTEXT * self.contexts.len();
         let data_at = transaction_at + self.transaction.len();
         let total = data_at + self.accounts.iter().map(|account| account.data.len()).sum::<usize>();
 
         let mut bytes = Vec::with_capacity(total);
         let counts = [self.accounts.len(), self.contexts.len(), self.transaction.len()];
-        for word in counts.into_iter().chain([HEADER, contexts_at, transaction_at, data_at, total]) {
+        for word in counts.into_iter().chain([SNAPSHOT_HEADER, contexts_at, transaction_at, data_at, total]) {
             bytes.extend((word as u32).to_le_bytes());
         }
         let mut at = data_at;
@@ -143,18 +135,9 @@ impl std::error::Error for BuildError {}
 /// None if the snapshot has no such account or too few bytes. Whether it is valid otherwise, the calls on
 /// [`Memory`](crate::Memory) tell.
 pub fn account_data(snapshot: &[u8], account: u16) -> Option<&[u8]> {
-    let account = usize::from(account);
-    if account >= word(snapshot, 0)? {
-        return None;
-    }
-    let entry = snapshot.get(HEADER + ENTRY * account..)?.first_chunk::<ENTRY>()?;
-    if u16::from_le_bytes([entry[0], entry[1]]) & EXISTS == 0 {
+    let entry = AccountEntry::read(snapshot, account)?;
+    if !entry.exists() {
         return Some(&[]);
     }
-    snapshot.get(word(entry, 8)?..)?.get(..word(entry, 4)?)
-}
-
-/// The 32-bit number at this place.
-fn word(bytes: &[u8], at: usize) -> Option<usize> {
-    bytes.get(at..)?.first_chunk().map(|word| u32::from_le_bytes(*word) as usize)
+    snapshot.get(entry.data_at as usize..)?.get(..entry.length as usize)
 }

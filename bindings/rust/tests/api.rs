@@ -170,12 +170,15 @@ fn a_page_view_moves_from_the_snapshot_to_the_pool() {
     let (snapshot, ..) = memory.buffers();
     let data = account_data(snapshot, SLOTS).unwrap();
     assert_eq!(memory.page_view(SLOTS, 1).unwrap().as_ptr_range(), data[4096..].as_ptr_range());
+    let end = snapshot.len();
+    assert_eq!(memory.page_place(SLOTS, 1), Ok(PagePlace::Snapshot(end - 1_904..end)));
 
     memory.store_u16(slot(0x1004), 0x2211).unwrap();
     let (.., pool) = memory.buffers();
     let view = memory.page_view(SLOTS, 1).unwrap();
     assert_eq!(view.as_ptr_range(), pool[..1_904].as_ptr_range());
     assert_eq!(view[4..6], [0x11, 0x22]);
+    assert_eq!(memory.page_place(SLOTS, 1), Ok(PagePlace::Pool(0..1_904)));
 }
 
 #[test]
@@ -270,6 +273,40 @@ fn a_built_snapshot_gives_back_its_parts() {
     assert_eq!(memory.load_u8(Address::block_context(0, 0x78).unwrap()), Err(Refusal::OutOfRange));
     assert_eq!(memory.load_u8(Address::metadata(SLOTS, 63).unwrap()), Ok(5));
     assert_eq!(memory.fetch(Address::program(0).unwrap(), 4), Ok(0x13));
+}
+
+#[test]
+fn the_fields_of_the_formats_are_those_of_the_calls() {
+    use inspect::*;
+    let mut host = Host::new(4);
+    let mut memory = host.begin();
+    memory.resize(Region::Stack, 1).unwrap();
+    memory.store_u8(slot(0x1004), 0x11).unwrap();
+    let mut registers = [0; 256];
+    registers[8] = 0x77;
+    memory.call(CALLEE, &registers).unwrap();
+    memory.resize(Region::Heap, 1).unwrap();
+    let mut list = vec![0; change_list_len(4)];
+    memory.change_list(&mut list).unwrap();
+    let Host { snapshot, control, .. } = host;
+
+    assert_eq!(
+        SnapshotHeader::read(&snapshot).map(|header| (header.accounts, header.contexts, header.total as usize)),
+        Some((6, 1, snapshot.len()))
+    );
+    let entry = AccountEntry::read(&snapshot, SLOTS).unwrap();
+    assert_eq!((entry.exists(), entry.writable(), entry.owner, entry.length, entry.zero), (true, true, PROGRAM, 6_000, 0));
+    assert_eq!(AccountEntry::read(&snapshot, 6), None);
+    let header = ControlHeader { frames: 4, invocations: 2, shadow_at: 16, table_at: 4_504 };
+    assert_eq!(ControlHeader::read(&control), Some(header));
+    let current = Invocation::read(&control, 2).unwrap();
+    assert_eq!((current.program, current.stack, current.heap, current.registers[1]), (CALLEE, 1, 1, 0x77));
+    let entry = |usage, tag, account, page| FrameEntry { usage, tag, account, page };
+    let entries = [entry(2, 0, 0, 4_095), entry(1, 0, SLOTS, 1), entry(3, 1, 0, 0), entry(0, 0, 0, 0)];
+    assert!(frame_entries(&control).eq(entries));
+    assert_eq!(ListHeader::read(&list), Some(ListHeader { pages: 1, entries_at: 16, pages_at: 24, total: 4_120 }));
+    assert_eq!(ListEntry::read(&list, 0), Some(ListEntry { account: SLOTS, page: 1, live: 1_904 }));
+    assert_eq!((ListHeader::read(&list[..15]), ControlHeader::read(&[]), Invocation::read(&control, usize::MAX)), (None, None, None));
 }
 
 #[test]

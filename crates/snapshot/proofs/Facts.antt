@@ -1,16 +1,15 @@
--- A valid header and a valid entry, as facts by name, and what they say of the data and the metadata of an account. Assumes nothing.
+-- A valid header and a valid entry, as facts by name, and what they say of an account's data. Assumes nothing.
 use Prim.Native.Nat.{ℕ, _+_, _*_, _^_, _≤_, _<_}
 use mathlib.Core.Path.{_≡_}
-use mathlib.Core.Bool.{true, false}
+use mathlib.Core.Bool.{true}
 use mathlib.Core.List.{List}
 use native.Mathlib.Omega.{arith}
-use lib.ListN.{length, getD, List·getD-eq-default}
+use lib.ListN.{length, getD}
 use borrow.Author.Tests.{leb-true, eqb-true, ltb-true}
-use Rattle.words.specs.Words.{zeros}
-use Rattle.words.proofs.Run.{length-bytesAt, getD-bytesAt, length-zeros, getD-zeros}
+use Rattle.words.proofs.Run.{length-bytesAt, getD-bytesAt}
 use Rattle.choice.proofs.Tests.{both-true, by-test}
 use Rattle.snapshot.specs.Header.{headerSize, entrySize, contextSize, headerOf, accounts, contexts, transaction, countsValid, offsetsValid, totalValid, snapshotValid}
-use Rattle.snapshot.specs.Accounts.{known, entryAt, entryOf, exists, writable, dataLength, bodyValid, validWithin, entryValid, metadataSize, metadataAt, metadataOf, original}
+use Rattle.snapshot.specs.Accounts.{known, entryAt, entryOf, exists, dataLength, bodyValid, validWithin, entryValid, original}
 use Rattle.snapshot.specs.declared.header.Header.{Header}
 use Rattle.snapshot.specs.declared.accounts.Account.{Account}
 
@@ -99,16 +98,6 @@ entry-facts s a v x =
       within = leb-true _ _ (t₄ .1);
     }
 
--- what an account that does not exist has
-pub record AbsentFacts (s : List ℕ) (a : Account) : Type 0 where
-  pub no-data : dataLength (entryOf s a) ≡ 0
-  pub no-leave : writable (entryOf s a) ≡ false
-  pub no-metadata : metadataOf s a ≡ zeros metadataSize
-
-pub absent-entry : (s : List ℕ) (a : Account) → exists (entryOf s a) ≡ false → AbsentFacts s a
-unfolding metadataOf
-absent-entry s a x = record { no-data = rw x; no-leave = rw x; no-metadata = rw x }
-
 -- ---- the data
 
 module _ (s : List ℕ) (a : Account) where
@@ -133,25 +122,3 @@ module _ (s : List ℕ) (a : Account) where
   pub getD-original : (k : ℕ) → k < dataLength (entryOf s a) → getD (original s a) k 0 ≡ getD s (entryOf s a .start + k) 0
   unfolding original
   getD-original k l = getD-bytesAt (dataLength (entryOf s a)) s (entryOf s a .start) k l
-
-  -- ---- the metadata
-
-  -- the metadata is 64 bytes, those of zeros too
-  pub length-metadata : length (metadataOf s a) ≡ metadataSize
-  unfolding metadataOf
-  length-metadata =
-      by-test (exists (entryOf s a)) (λ x. rw x (length-bytesAt metadataSize s (metadataAt a)))
-      (λ x. rw x (length-zeros metadataSize))
-
-  -- a byte of the metadata
-  pub getD-metadata : exists (entryOf s a) ≡ true → (k : ℕ) → k < metadataSize → getD (metadataOf s a) k 0 ≡ getD s (metadataAt a + k) 0
-  unfolding metadataOf
-  getD-metadata x k l = rw x (getD-bytesAt metadataSize s (metadataAt a) k l)
-
-  -- a byte past its end
-  pub metadata-past : (k : ℕ) → metadataSize ≤ k → getD (metadataOf s a) k 0 ≡ 0
-  metadata-past k l = List·getD-eq-default (metadataOf s a) 0 (omega (arith, length-metadata))
-
-  -- a byte of an account that does not exist
-  pub metadata-absent : exists (entryOf s a) ≡ false → (k : ℕ) → getD (metadataOf s a) k 0 ≡ 0
-  metadata-absent x k = rw (absent-entry s a x .no-metadata) (getD-zeros metadataSize k)

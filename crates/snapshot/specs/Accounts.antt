@@ -3,7 +3,7 @@ use Prim.Native.Nat.{ℕ, _+_, _*_, _/_, _%_, _^_}
 use mathlib.Core.Bool.{Bool, not}
 use mathlib.Core.List.{List}
 use lib.Dec.{ltb, leb, eqb}
-use Rattle.words.specs.Words.{wordAt, bytesAt, zeros}
+use Rattle.words.specs.Words.{wordAt, bytesAt}
 use Rattle.choice.specs.Choice.{pick, both, either}
 use Rattle.snapshot.specs.Header.{headerSize, entrySize, headerOf, accounts}
 use Rattle.snapshot.specs.declared.accounts.Account.{Account}
@@ -62,10 +62,6 @@ metadataSize = 64
 -- where the metadata starts
 abbrev pub metadataAt : Account → ℕ
 metadataAt a = entryAt a + 16
-
--- an account's metadata: "One that does not exist has .. metadata of zeros"
-unfoldable pub metadataOf : List ℕ → Account → List ℕ
-metadataOf s a = pick (exists (entryOf s a)) (bytesAt metadataSize s (metadataAt a)) (zeros metadataSize)
 
 -- an account's original data
 unfoldable pub original : List ℕ → Account → List ℕ

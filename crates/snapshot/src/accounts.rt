@@ -1,14 +1,12 @@
 // Account entries of 80 bytes: their fields, validity, existence, data length, metadata and leave to write.
 use super::header::ENTRY;
 use super::header::HEADER;
-use super::header::read_header;
-use words::numbers::padded;
 use words::numbers::u16_at;
 use words::numbers::u32_at;
 ghost use mathlib.Core.Path.{_≡_};
 ghost use Prim.Native.Nat.{_+_, _*_, _≤_};
-ghost use lib.ListN.{length, getD};
-ghost use Rattle.snapshot.specs.Accounts.{entryAt, entryOf, exists, writable, dataLength, bodyValid, validWithin, entryValid, metadataAt, metadataOf};
+ghost use lib.ListN.{length};
+ghost use Rattle.snapshot.specs.Accounts.{entryAt, entryOf, exists, writable, dataLength, bodyValid, validWithin, metadataAt};
 
 // An account of the snapshot, by its number.
 pub struct Account(pub u16);
@@ -106,7 +104,7 @@ pub fn metadata_at(a: Account) -> usize
     entry_at(a) + METADATA_AT
 }
 
-// An account's entry, in a slice that holds it whole.
+// An account's entry. The slice holds it whole.
 pub fn whole_account_entry(s: &[u8], a: Account) -> AccountEntry
     requires { ⌜ entryAt a + 80 ≤ length (now s) ⌝ }
     ensures { λ r. ⌜ r ≡ entryOf (now (s .entry)) a ⌝ }
@@ -119,46 +117,4 @@ pub fn whole_account_entry(s: &[u8], a: Account) -> AccountEntry
         start: u32_at(s, at + 8),
         zero: u32_at(s, at + 12),
     }
-}
-
-// An account's entry, in a slice of any length.
-pub fn account_entry(s: &[u8], a: Account) -> AccountEntry
-    ensures { λ r. ⌜ r ≡ entryOf (now (s .entry)) a ⌝ }
-{
-    let at = entry_at(a);
-    if at + ENTRY <= s.len() {
-        return whole_account_entry(s, a);
-    }
-    AccountEntry {
-        flags: padded(s, at, 2) as u16,
-        owner: Account(padded(s, at + 2, 2) as u16),
-        length: padded(s, at + 4, 4) as usize,
-        start: padded(s, at + 8, 4) as usize,
-        zero: padded(s, at + 12, 4) as usize,
-    }
-}
-
-// Whether an account's entry is valid (document 01's fit).
-pub fn entry_valid(s: &[u8], a: Account) -> bool
-    ensures { λ r. ⌜ r ≡ entryValid (now (s .entry)) a ⌝ }
-{
-    let h = read_header(s);
-    account_entry(s, a).valid(h.data_at, h.total)
-}
-
-// Byte k of an account's metadata: 0 where the account does not exist, and past the metadata's end.
-pub fn metadata_byte(s: &[u8], a: Account, k: usize) -> u8
-    ensures { λ r. ⌜ r ≡ getD (metadataOf (now (s .entry)) a) k 0 ⌝ }
-{
-    if METADATA <= k {
-        return 0;
-    }
-    if account_entry(s, a).exists() {
-        let at = metadata_at(a) + k;
-        if at < s.len() {
-            return s[at];
-        }
-        return 0;
-    }
-    0
 }

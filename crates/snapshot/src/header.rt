@@ -1,5 +1,4 @@
 // The header of eight u32, and the rules that make a snapshot valid.
-use words::numbers::padded;
 use words::numbers::u32_at;
 ghost use mathlib.Core.Path.{_≡_};
 ghost use Prim.Native.Nat.{_≤_};
@@ -39,7 +38,7 @@ pub struct Header {
     pub total: usize,
 }
 
-// The header of a slice that is long enough to hold it.
+// The header. The slice is long enough to hold it.
 pub fn whole_header(s: &[u8]) -> Header
     requires { ⌜ 32 ≤ length (now s) ⌝ }
     ensures { λ r. ⌜ r ≡ headerOf (now (s .entry)) ⌝ }
@@ -53,25 +52,6 @@ pub fn whole_header(s: &[u8]) -> Header
         transaction_at: u32_at(s, 20),
         data_at: u32_at(s, 24),
         total: u32_at(s, 28),
-    }
-}
-
-// The header of a slice of any length.
-pub fn read_header(s: &[u8]) -> Header
-    ensures { λ r. ⌜ r ≡ headerOf (now (s .entry)) ⌝ }
-{
-    if HEADER <= s.len() {
-        return whole_header(s);
-    }
-    Header {
-        accounts: padded(s, 0, 4) as usize,
-        contexts: padded(s, 4, 4) as usize,
-        transaction: padded(s, 8, 4) as usize,
-        accounts_at: padded(s, 12, 4) as usize,
-        contexts_at: padded(s, 16, 4) as usize,
-        transaction_at: padded(s, 20, 4) as usize,
-        data_at: padded(s, 24, 4) as usize,
-        total: padded(s, 28, 4) as usize,
     }
 }
 

@@ -1,0 +1,7 @@
+-- `hekthumar::invocations::hekthumar_begin` meets its contract: it hands on what begin gives. Assumes nothing.
+use borrow.Author.Needs.{needs}
+use Rattle.hekthumar.proofs.invocations.hekthumar_begin.Statement.{statement}
+use Rattle.hekthumar.proofs.invocations.hekthumar_begin.Tie as tie
+
+pub hekthumar-begin-spec : {M : Type 1} → statement M
+hekthumar-begin-spec = tie.close (tie.spec (λ c κs. search needs) (λ c. search needs) (λ c. c .before .before .begin .ensures))

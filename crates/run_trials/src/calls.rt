@@ -1,0 +1,76 @@
+// One call, asked and answered in a line.
+use super::print::answered;
+use super::print::hex;
+use super::print::number;
+use super::print::say;
+use access::loads::load;
+use access::stores::store;
+use address::Address;
+use apply::apply;
+use changes::list::change_list;
+use invoke::begin::begin;
+use regions::resize::resize;
+use snapshot::accounts::Account;
+use words::numbers::padded;
+
+// Begins the program, account 0.
+pub fn begin_program(snapshot: &[u8], control: &mut [u8], pool: &[u8]) {
+    say(b"  begin 0");
+    answered(begin(snapshot, control, pool, Account(0)));
+}
+
+// Resizes a region: 2 is the stack, 3 the heap.
+pub fn resize_to(snapshot: &[u8], control: &mut [u8], pool: &mut [u8], region: u8, pages: usize) {
+    say(b"  resize region ");
+    number(region as u64);
+    say(b" to ");
+    number(pages as u64);
+    answered(resize(snapshot, control, pool, region, pages));
+}
+
+// Loads 1, 2, 4 or 8 bytes.
+pub fn load_at(snapshot: &[u8], control: &[u8], pool: &[u8], address: u64, size: usize) {
+    say(b"  load ");
+    number(size as u64);
+    say(b" at ");
+    hex(address, 12);
+    let v = load(snapshot, control, pool, Address(address), size);
+    say(b": ");
+    number(v.number as u64);
+    say(b", value ");
+    hex(v.value, 2);
+    say(b"\n");
+}
+
+// Stores one byte.
+pub fn store_byte(snapshot: &[u8], control: &mut [u8], pool: &mut [u8], address: u64, b: u64) {
+    say(b"  store ");
+    hex(b, 2);
+    say(b" at ");
+    hex(address, 12);
+    answered(store(snapshot, control, pool, Address(address), 1, b));
+}
+
+// Prints the u32 at a place.
+fn show_word(list: &[u8], at: usize) {
+    say(b" ");
+    number(padded(list, at, 4));
+}
+
+// Writes the change list, and prints the four words of its header.
+pub fn list_changes(snapshot: &[u8], control: &[u8], pool: &[u8], list: &mut [u8]) {
+    say(b"  change list");
+    answered(change_list(snapshot, control, pool, list));
+    say(b"  words");
+    show_word(list, 0);
+    show_word(list, 4);
+    show_word(list, 8);
+    show_word(list, 12);
+    say(b"\n");
+}
+
+// Applies a change list to account 5.
+pub fn apply_list(list: &[u8], data: &mut [u8]) {
+    say(b"  apply to account 5");
+    answered(apply(list, Account(5), data));
+}

@@ -1,0 +1,33 @@
+// Runs document 01's trials at the edges that are not marked P, and prints what was asked and what was answered: the end of an
+// account's data, the last block context, one stack page, one heap page, and two byte stores in account 5 with the change list that
+// they give, byte by byte.
+mod calls;
+mod edges;
+mod fixture;
+mod print;
+mod slots;
+mod two_stores;
+
+use fixture::MOST_CONTEXTS;
+use fixture::ONE_CONTEXT;
+use fixture::write_snapshot;
+
+// The trial on the last of 512 block contexts, over a snapshot of its own.
+fn most_contexts(control: &mut [u8], pool: &[u8]) {
+    let mut snapshot = [0u8; MOST_CONTEXTS];
+    write_snapshot(&mut snapshot, 512);
+    edges::block_contexts(&snapshot, control, pool);
+}
+
+// Lends every trial a control block and a pool of two frames, which hold other bytes than those that begin and resize write.
+fn main() {
+    let mut snapshot = [0u8; ONE_CONTEXT];
+    write_snapshot(&mut snapshot, 1);
+    let mut control = [7u8; 4520];
+    let mut pool = [9u8; 8192];
+    edges::account_data(&snapshot, &mut control, &pool);
+    most_contexts(&mut control, &pool);
+    edges::stack_page(&snapshot, &mut control, &mut pool);
+    edges::heap_page(&snapshot, &mut control, &mut pool);
+    two_stores::run(&snapshot, &mut control, &mut pool);
+}

@@ -1,0 +1,45 @@
+//! A map of the pool, a character to a frame, and a line for each frame in use.
+
+use crate::world::COPY;
+use hekthumar::inspect::{frame_entries, FrameEntry};
+use hekthumar::Region;
+
+const STACK: u8 = Region::Stack as u8;
+const HEAP: u8 = Region::Heap as u8;
+
+/// The legend, the map with 64 frames to a row, and what lies in each frame that is not free.
+pub fn lines(control: &[u8]) -> Vec<String> {
+    let marks = marks(control);
+    let rows = marks.as_bytes().chunks(64).enumerate();
+    let mut lines = vec!["pool (. free, A copy of an account's page, S stack, H heap, ? other use)".to_string()];
+    lines.extend(rows.map(|(row, marks)| format!("  {:4} {}", 64 * row, String::from_utf8_lossy(marks))));
+    let used = frame_entries(control).enumerate().filter(|(_, entry)| entry.usage != 0);
+    lines.extend(used.map(|(frame, entry)| format!("  frame {frame}: {}", holds(entry))));
+    lines
+}
+
+/// A character for each frame.
+pub fn marks(control: &[u8]) -> String {
+    frame_entries(control).map(|entry| mark(entry.usage)).collect()
+}
+
+fn mark(usage: u8) -> char {
+    match usage {
+        0 => '.',
+        COPY => 'A',
+        STACK => 'S',
+        HEAP => 'H',
+        _ => '?',
+    }
+}
+
+/// What a frame holds.
+fn holds(entry: FrameEntry) -> String {
+    let FrameEntry { usage, tag, account, page } = entry;
+    match usage {
+        COPY => format!("account {account}, page {page}, tag {tag}"),
+        STACK => format!("stack, page {page}, tag {tag}"),
+        HEAP => format!("heap, page {page}, tag {tag}"),
+        _ => format!("use {usage}, page {page}, tag {tag}"),
+    }
+}

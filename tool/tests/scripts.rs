@@ -1,0 +1,154 @@
+//! Scripts that are tests by themselves: in `scripts/`, each says what it expects of every call, with numbers from document 01.
+
+mod common;
+mod data;
+
+use common::folder::Folder;
+use common::tool::{self, Came};
+use data::bytes::with_word;
+use data::layout::{account_at, LENGTH, PAGE};
+use data::{control, list, snapshot};
+use std::collections::BTreeSet;
+use std::fs;
+use std::path::PathBuf;
+
+/// A script's name, the files that it reads, and those that it has to leave.
+struct Script {
+    name: &'static str,
+    files: Vec<(&'static str, Vec<u8>)>,
+    left: Vec<(&'static str, Vec<u8>)>,
+}
+
+/// Statements of which nothing can be expected: they call nothing.
+const NO_CALLS: [&str; 5] = ["frames", "resume", "poke", "save-control", "save-pool"];
+
+/// Words of what is expected that are neither numbers nor marks of the map.
+const NAMES: [&str; 5] = ["snapshot", "control", "zeros", "pool", "take"];
+
+fn scripts() -> Vec<Script> {
+    let over = |name, snapshot| Script { name, files: vec![("snapshot", snapshot)], left: Vec::new() };
+    vec![
+        over("walk", snapshot::trials(0, &[])),
+        over("edges", snapshot::trials(1, &snapshot::slots())),
+        over("contexts", snapshot::trials(512, &snapshot::slots())),
+        inspect(),
+        bookings(),
+    ]
+}
+
+/// Account 3 has no data, so that its entry is valid until the script damages it.
+fn inspect() -> Script {
+    let snapshot = with_word(&snapshot::inspected(), account_at(3) + LENGTH, 0);
+    let (control, pool) = (control::inspected(), vec![0; 6 * PAGE]);
+    let short = |bytes: &[u8]| bytes[..bytes.len() - 1].to_vec();
+    let short = [("short-control", short(&control)), ("short-pool", short(&pool))];
+    let files = [("snapshot", snapshot), ("control", control), ("pool", pool)].into_iter().chain(short);
+    Script { name: "inspect", files: files.collect(), left: Vec::new() }
+}
+
+fn bookings() -> Script {
+    let page = &list::trial_slots()[PAGE..];
+    let mut pool = page.to_vec();
+    pool.resize(PAGE, 0);
+    pool.extend([9; 8]);
+    pool.resize(2 * PAGE, 0);
+    let left = [("no-bookings", list::list(&[])), ("bookings", list::list(&[(5, 1, page)])), ("pool", pool)];
+    Script { name: "bookings", files: vec![("snapshot", snapshot::trials(1, &snapshot::slots()))], left: left.into() }
+}
+
+impl Script {
+    fn text(&self) -> String {
+        fs::read_to_string(folder().join(self.name).with_extension("txt")).expect("the script is in the folder")
+    }
+
+    /// Runs this text in place of the script's own.
+    fn run(&self, text: &str) -> (Came, Folder) {
+        let folder = Folder::new(self.name);
+        self.files.iter().for_each(|(path, bytes)| folder.put(path, &bytes.into()));
+        folder.put("script", &text.into());
+        (tool::run(folder.path(), &["run", "snapshot", "script"]), folder)
+    }
+}
+
+fn folder() -> PathBuf {
+    PathBuf::from(concat!(env!("CARGO_MANIFEST_DIR"), "/tests/scripts"))
+}
+
+#[test]
+fn every_expectation_is_met() {
+    for script in scripts() {
+        let (came, folder) = script.run(&script.text());
+        assert_eq!((came.status, came.errors.as_str()), (0, ""), "{}", script.name);
+        for (path, bytes) in &script.left {
+            assert!(folder.bytes(path).as_ref() == Some(bytes), "{}: {path} does not hold what it has to", script.name);
+        }
+    }
+}
+
+#[test]
+fn every_script_is_run() {
+    let run: BTreeSet<String> = scripts().iter().map(|script| format!("{}.txt", script.name)).collect();
+    let there = fs::read_dir(folder()).expect("there is a folder of scripts");
+    let there: BTreeSet<String> = there.map(|file| file.expect("it can be read").file_name().to_string_lossy().into_owned()).collect();
+    assert_eq!(run, there);
+}
+
+#[test]
+fn every_call_has_an_expectation() {
+    for script in scripts() {
+        let text = script.text();
+        let calls = text.lines().map(|line| line.split('#').next().unwrap_or_default()).filter(|line| is_call(line));
+        let (with, without): (Vec<&str>, Vec<&str>) = calls.partition(|line| line.contains("=>"));
+        assert!(!with.is_empty() && without.is_empty(), "{}: nothing is expected of {without:?}", script.name);
+    }
+}
+
+fn is_call(line: &str) -> bool {
+    line.split_whitespace().next().is_some_and(|statement| !NO_CALLS.contains(&statement))
+}
+
+/// Every expected number, byte and mark is read: with another in its place the run fails, at that line and no other.
+#[test]
+fn no_expectation_is_idle() {
+    for script in scripts() {
+        let text = script.text();
+        let lines: Vec<&str> = text.lines().collect();
+        for (at, line) in lines.iter().enumerate() {
+            for altered in alterations(line) {
+                let others = [&lines[..at], &[altered.as_str()], &lines[at + 1..]].concat().join("\n");
+                let (came, _folder) = script.run(&others);
+                let complaints: Vec<&str> = came.errors.lines().collect();
+                let place = format!("script:{}:{}: expected ", at + 1, line.find("=>").unwrap_or(0) + 1);
+                let named = matches!(complaints[..], [first, last] if first.starts_with(&place) && last.starts_with("script: 1 of "));
+                assert!(named && came.status == 1, "{}: '{altered}' gave status {}\n{}", script.name, came.status, came.errors);
+            }
+        }
+    }
+}
+
+/// The line with one word of what it expects changed, for each of these words.
+fn alterations(line: &str) -> Vec<String> {
+    let line = line.split('#').next().unwrap_or_default();
+    let Some((statement, expected)) = line.split_once("=>") else {
+        return Vec::new();
+    };
+    let words: Vec<&str> = expected.split_whitespace().collect();
+    let alter = |at: usize| {
+        let mut words: Vec<String> = words.iter().map(|word| word.to_string()).collect();
+        words[at] = other(&words[at]);
+        format!("{statement}=> {}", words.join(" "))
+    };
+    (0..words.len()).filter(|&at| !NAMES.contains(&words[at])).map(alter).collect()
+}
+
+/// Another word of the same kind: its last digit or mark is another.
+fn other(word: &str) -> String {
+    let (start, last) = word.split_at(word.len() - 1);
+    let last = match last {
+        "0" => "1",
+        "." => "A",
+        "A" | "S" | "H" | "?" => ".",
+        _ => "0",
+    };
+    format!("{start}{last}")
+}
