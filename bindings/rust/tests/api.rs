@@ -1,5 +1,6 @@
 //! Behaviour of the safe interface, seen from a host.
 
+use hekthumar::layout::{LIST_ENTRY, LIST_HEADER};
 use hekthumar::*;
 
 const PROGRAM: u16 = 0;
@@ -337,7 +338,8 @@ fn the_builder_names_the_limit_exceeded() {
 /// A list of up to three pages of accounts 0 and 1, most of them close to valid.
 fn near_list(random: &mut Random) -> Vec<u8> {
     let count = random.below(4) as u32;
-    let mut bytes: Vec<u8> = [count, 16, 16 + 8 * count, 16 + 4_104 * count].into_iter().flat_map(u32::to_le_bytes).collect();
+    let words = [LIST_HEADER as u32, LIST_HEADER as u32 + LIST_ENTRY as u32 * count, change_list_len(count as usize) as u32];
+    let mut bytes: Vec<u8> = [count].into_iter().chain(words).flat_map(u32::to_le_bytes).collect();
     for _ in 0..count {
         bytes.extend([random.below(2) as u8, 0, random.below(4) as u8, 0]);
         bytes.extend((random.below(4_098) as u32).to_le_bytes());

@@ -1,3 +1,2 @@
-pub mod PageBytes
 pub mod Answers
-pub mod Copies
+pub mod Seen

@@ -2,15 +2,19 @@
 use Prim.Native.Nat.{ℕ}
 use mathlib.Core.List.{List}
 use lib.ListN.{length}
+use Rattle.layout.specs.Control.{usageCopy}
 use Rattle.words.specs.Words.{splice}
-use Rattle.frames.specs.Table.{putFrameEntry, frameStart}
-use Rattle.translate.specs.Place.{numberOfAnswer}
+use Rattle.pages.specs.Pages.{frameStart, originalPage}
+use Rattle.frames.specs.Table.{putFrameEntry}
+use Rattle.frames.specs.declared.table.FrameEntry.{FrameEntry}
+use Rattle.translate.specs.Place.{outcomeOf}
 use Rattle.translate.specs.Translate.{translateOf}
+use Rattle.translate.specs.declared.place.NewCopy.{NewCopy}
+use Rattle.translate.specs.declared.place.Outcome.{Outcome}
 use Rattle.translate.specs.declared.place.Place.{Place}
 use Rattle.translate.specs.declared.place.Place.the-variants.{InSnapshot, InControl, Zeros, InPool, Take}
 use Rattle.translate.specs.declared.place.Translation.{Translation}
 use Rattle.translate.specs.declared.place.Translation.the-variants.{Allowed, Refused}
-use Rattle.access.specs.Pages.{copyEntry, originalPage}
 use Rattle.translate.specs.Fits.{CopyFits}
 
 -- a store's place is in the pool, or a frame to be taken: translation gives a store no other
@@ -19,7 +23,7 @@ Writable s c p (InSnapshot at) = ⊥
 Writable s c p (InControl at) = ⊥
 Writable s c p Zeros = ⊥
 Writable s c p (InPool at) = Unit {0}
-Writable s c p (Take at f a q) = CopyFits s c p f a q
+Writable s c p (Take t) = CopyFits s c p t
 
 -- where the bytes go, once the page has its frame
 abbrev pub placeInPool : Place → ℕ
@@ -27,7 +31,19 @@ placeInPool (InSnapshot at) = 0
 placeInPool (InControl at) = 0
 placeInPool Zeros = 0
 placeInPool (InPool at) = at
-placeInPool (Take at f a q) = at
+placeInPool (Take t) = t .at
+
+-- "writes its entry (use 1, tag 0, account, page, 0)"
+abbrev pub copyEntry : NewCopy → FrameEntry
+copyEntry t = record { usage = usageCopy; tag = 0; account = t .account; page = t .page; zero = 0 }
+
+-- the control block with a copy's entry
+abbrev pub takenControl : List ℕ → NewCopy → List ℕ
+takenControl c t = putFrameEntry c (t .frame .0) (copyEntry t)
+
+-- "copies the page's original bytes, fills the rest with zeros"
+abbrev pub takenPool : List ℕ → List ℕ → NewCopy → List ℕ
+takenPool s p t = splice p (frameStart (t .frame)) (originalPage s (t .account) (t .page))
 
 -- "takes the lowest free frame, writes its entry"
 abbrev pub preparedControl : List ℕ → Place → List ℕ
@@ -35,15 +51,15 @@ preparedControl c (InSnapshot at) = c
 preparedControl c (InControl at) = c
 preparedControl c Zeros = c
 preparedControl c (InPool at) = c
-preparedControl c (Take at f a q) = putFrameEntry c (f .0) (copyEntry a q)
+preparedControl c (Take t) = takenControl c t
 
--- "copies the page's original bytes, fills the rest with zeros"
+-- the pool once the page has its frame
 abbrev pub preparedPool : List ℕ → List ℕ → Place → List ℕ
 preparedPool s p (InSnapshot at) = p
 preparedPool s p (InControl at) = p
 preparedPool s p Zeros = p
 preparedPool s p (InPool at) = p
-preparedPool s p (Take at f a q) = splice p (frameStart f) (originalPage s a q)
+preparedPool s p (Take t) = takenPool s p t
 
 -- the control block after an answer: a refusal leaves it
 abbrev pub controlAfter : List ℕ → Translation → List ℕ
@@ -55,9 +71,9 @@ abbrev pub poolAfter : List ℕ → List ℕ → List ℕ → Translation → Li
 poolAfter s p bytes (Allowed q) = splice (preparedPool s p q) (placeInPool q) bytes
 poolAfter s p bytes (Refused r) = p
 
--- a store's number, of either kind
-unfoldable pub storeNumber : List ℕ → List ℕ → List ℕ → ℕ → ℕ → ℕ → ℕ
-storeNumber s c p kind a n = numberOfAnswer (translateOf s c p kind a n)
+-- what a store answers, of either kind
+unfoldable pub storeOutcome : List ℕ → List ℕ → List ℕ → ℕ → ℕ → ℕ → Outcome
+storeOutcome s c p kind a n = outcomeOf (translateOf s c p kind a n)
 
 -- the control block after a store
 unfoldable pub storeControl : List ℕ → List ℕ → List ℕ → ℕ → ℕ → ℕ → List ℕ

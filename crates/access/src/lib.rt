@@ -1,4 +1,4 @@
 // What an access does with the place that translation names: load, store, fetch, span load, span store.
+mod copies;
 pub mod loads;
-pub mod pages;
 pub mod stores;

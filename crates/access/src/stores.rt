@@ -1,12 +1,12 @@
 // Stores and span stores.
-use super::pages::take_copy;
+use super::copies::take_copy;
 use address::Address;
-use refusal::DONE;
 use segments::kinds::STORE;
 use segments::kinds::STORE_SPAN;
+use translate::place::Outcome;
 use translate::place::Place;
 use translate::place::Translation;
-use translate::place::number_of;
+use translate::place::outcome_of;
 use translate::translation::translate;
 use words::numbers::write;
 use words::runs::copy;
@@ -14,7 +14,7 @@ ghost use mathlib.Core.Path.{_≡_};
 ghost use lib.ListN.{length};
 ghost use Rattle.words.specs.Words.{wordBytes};
 ghost use Rattle.segments.specs.Kinds.{kindStore, kindStoreSpan};
-ghost use Rattle.access.specs.Stores.{Writable, placeInPool, preparedControl, preparedPool, storeNumber, storeControl, storePool};
+ghost use Rattle.access.specs.Stores.{Writable, placeInPool, preparedControl, preparedPool, storeOutcome, storeControl, storePool};
 
 // Makes the page of a store's place writable, and gives the place in the pool: a page with a frame is ready, one without gets a copy.
 fn make_writable(s: &[u8], c: &mut [u8], pool: &mut [u8], place: Place) -> usize
@@ -25,14 +25,9 @@ fn make_writable(s: &[u8], c: &mut [u8], pool: &mut [u8], place: Place) -> usize
 {
     match place {
         Place::InPool(at) => at,
-        Place::Take {
-            at,
-            frame,
-            account,
-            page,
-        } => {
-            take_copy(s, c, pool, frame, account, page);
-            at
+        Place::Take(t) => {
+            take_copy(s, c, pool, t);
+            t.at
         }
         Place::InSnapshot(_) => 0,
         Place::InControl(_) => 0,
@@ -41,31 +36,31 @@ fn make_writable(s: &[u8], c: &mut [u8], pool: &mut [u8], place: Place) -> usize
 }
 
 // Stores the n lowest bytes of a value, n being 1, 2, 4 or 8.
-pub fn store(s: &[u8], c: &mut [u8], pool: &mut [u8], a: Address, n: usize, v: u64) -> u8
-    ensures { λ r. ⌜ r ≡ storeNumber (now (s .entry)) (now (c .entry)) (now (pool .entry)) kindStore (a .0) n ⌝ }
+pub fn store(s: &[u8], c: &mut [u8], pool: &mut [u8], a: Address, n: usize, v: u64) -> Outcome
+    ensures { λ r. ⌜ r ≡ storeOutcome (now (s .entry)) (now (c .entry)) (now (pool .entry)) kindStore (a .0) n ⌝ }
     ensures { λ _. ⌜ now (c .exit) ≡ storeControl (now (s .entry)) (now (c .entry)) (now (pool .entry)) kindStore (a .0) n ⌝ }
     ensures { λ _. ⌜ now (pool .exit) ≡ storePool (now (s .entry)) (now (c .entry)) (now (pool .entry)) kindStore (a .0) (wordBytes n v) ⌝ }
 {
     let answer = translate(s, c, pool, STORE, a, n);
     let Translation::Allowed(place) = answer else {
-        return number_of(answer);
+        return outcome_of(answer);
     };
     let at = make_writable(s, c, pool, place);
     write(pool, at, n, v);
-    DONE
+    outcome_of(answer)
 }
 
 // Stores the whole of a lent buffer, 1 to 4,096 bytes.
-pub fn store_span(s: &[u8], c: &mut [u8], pool: &mut [u8], a: Address, bytes: &[u8]) -> u8
-    ensures { λ r. ⌜ r ≡ storeNumber (now (s .entry)) (now (c .entry)) (now (pool .entry)) kindStoreSpan (a .0) (length (now (bytes .entry))) ⌝ }
+pub fn store_span(s: &[u8], c: &mut [u8], pool: &mut [u8], a: Address, bytes: &[u8]) -> Outcome
+    ensures { λ r. ⌜ r ≡ storeOutcome (now (s .entry)) (now (c .entry)) (now (pool .entry)) kindStoreSpan (a .0) (length (now (bytes .entry))) ⌝ }
     ensures { λ _. ⌜ now (c .exit) ≡ storeControl (now (s .entry)) (now (c .entry)) (now (pool .entry)) kindStoreSpan (a .0) (length (now (bytes .entry))) ⌝ }
     ensures { λ _. ⌜ now (pool .exit) ≡ storePool (now (s .entry)) (now (c .entry)) (now (pool .entry)) kindStoreSpan (a .0) (now (bytes .entry)) ⌝ }
 {
     let spanned = translate(s, c, pool, STORE_SPAN, a, bytes.len());
     let Translation::Allowed(place) = spanned else {
-        return number_of(spanned);
+        return outcome_of(spanned);
     };
     let at = make_writable(s, c, pool, place);
     copy(pool, at, bytes, 0, bytes.len());
-    DONE
+    outcome_of(spanned)
 }

@@ -4,7 +4,8 @@ use Prim.Native.Nat.{ℕ, _≤_, _<_, _/_, _%_, _^_}
 use mathlib.Core.Path.{_≡_, _∙_}
 use native.Mathlib.Omega.{arith}
 use borrow.Author.Tests.{lt-ltb, le-ltb}
-use Rattle.address.specs.Address.{offsets, addresses, typeOf, indexOf, offsetOf, joined, withOffset, joinOf, splitOf}
+use Rattle.layout.specs.Address.{offsets, addresses}
+use Rattle.address.specs.Address.{typeOf, indexOf, offsetOf, joined, withOffset, joinOf, splitOf}
 
 -- ---- the two arms of each
 

@@ -1,19 +1,12 @@
 -- Document 01, "Addresses and segments". An address is a number. Assumes nothing.
 use Prim.Native.Nat.{ℕ, _+_, _*_, _/_, _%_, _^_}
 use lib.Dec.{ltb}
+use Rattle.layout.specs.Address.{offsets, addresses}
 use Rattle.choice.specs.Choice.{pick}
 use Rattle.refusal.specs.Numbers.{numberOf, done}
 use Rattle.refusal.specs.declared.Refusal.the-variants.{BadAddress}
 use Rattle.address.specs.declared.Joined.{Joined}
 use Rattle.address.specs.declared.Fields.{Fields}
-
--- offsets lie below this: "23..0 offset"
-abbrev pub offsets : ℕ
-offsets = 2 ^ 24
-
--- addresses lie below this: "Of the 48 bits"
-abbrev pub addresses : ℕ
-addresses = 2 ^ 48
 
 -- "47..40 are type"
 abbrev pub typeOf : ℕ → ℕ

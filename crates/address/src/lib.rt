@@ -1,4 +1,6 @@
 // The 48-bit address: type, index and offset, as a small value that can be asked for its fields.
+use layout::address::ADDRESSES;
+use layout::address::OFFSETS;
 use refusal::DONE;
 use refusal::Refusal;
 ghost use mathlib.Core.Path.{_≡_};
@@ -20,12 +22,6 @@ pub struct Fields {
     pub offset: u32,
     pub number: u8,
 }
-
-// Offsets lie below this.
-const OFFSETS: u64 = 0x100_0000;
-
-// Addresses lie below this.
-const ADDRESSES: u64 = 0x1_0000_0000_0000;
 
 impl Address {
     // Bits 47..40.

@@ -11,13 +11,14 @@ use native.Mathlib.Omega.{arith}
 use lib.ListN.{length, getD}
 use lib.Dec.{eqb}
 use borrow.Author.Tests.{eqb-true, eq-eqb}
+use Rattle.layout.specs.Page.{pageSize}
+use Rattle.layout.specs.List.{pagesAt}
 use Rattle.words.specs.Words.{bytesAt}
 use Rattle.words.proofs.Splice.{length-splice, splice-in}
 use Rattle.words.proofs.Run.{length-bytesAt, getD-bytesAt}
 use Rattle.choice.proofs.Tests.{by-test}
 use Rattle.snapshot.specs.declared.accounts.Account.{Account}
-use Rattle.access.proofs.PageBytes.{elsewhere}
-use Rattle.changes.specs.List.{pagesAt}
+use Rattle.pages.proofs.PageBytes.{elsewhere}
 use Rattle.apply.specs.Apply.{listCount, changeAccount, changePage, changeLive, listGood, applyEntry, applied}
 use Rattle.apply.proofs.Good.{ChangeFacts, changeKey, change-facts, page-inside, key-rises, list-change}
 
@@ -25,7 +26,7 @@ use Rattle.apply.proofs.Good.{ChangeFacts, changeKey, change-facts, pag
 
 -- the live bytes of entry i
 abbrev liveBytes : List ℕ → ℕ → List ℕ
-liveBytes l i = bytesAt (changeLive l i) l (pagesAt (listCount l) + 4096 * i)
+liveBytes l i = bytesAt (changeLive l i) l (pagesAt (listCount l) + pageSize * i)
 
 module _ (l : List ℕ) (a : Account) (d : List ℕ) (i : ℕ) where
   -- the length stays
@@ -34,8 +35,8 @@ module _ (l : List ℕ) (a : Account) (d : List ℕ) (i : ℕ) where
   length-entry = by-test (eqb (changeAccount l i) (a .0)) (λ e. rw e (length-splice _ _ _)) (λ e. rw e)
 
   -- another page keeps its bytes
-  entry-other : (p k : ℕ) → changeLive l i ≤ 4096 → (changeAccount l i ≡ a .0 → p ≢ changePage l i) → k < 4096
-      → getD (applyEntry l a d i) (4096 * p + k) 0 ≡ getD d (4096 * p + k) 0
+  entry-other : (p k : ℕ) → changeLive l i ≤ pageSize → (changeAccount l i ≡ a .0 → p ≢ changePage l i) → k < pageSize
+      → getD (applyEntry l a d i) (pageSize * p + k) 0 ≡ getD d (pageSize * p + k) 0
   unfolding applyEntry
   entry-other p k f h b =
       by-test (eqb (changeAccount l i) (a .0))
@@ -45,12 +46,12 @@ module _ (l : List ℕ) (a : Account) (d : List ℕ) (i : ℕ) where
       (λ e. rw e)
 
   -- the entry's own page has its live bytes
-  entry-page : (k : ℕ) → changeAccount l i ≡ a .0 → 4096 * changePage l i + changeLive l i ≤ length d → k < changeLive l i
-      → getD (applyEntry l a d i) (4096 * changePage l i + k) 0 ≡ getD l (pagesAt (listCount l) + 4096 * i + k) 0
+  entry-page : (k : ℕ) → changeAccount l i ≡ a .0 → pageSize * changePage l i + changeLive l i ≤ length d → k < changeLive l i
+      → getD (applyEntry l a d i) (pageSize * changePage l i + k) 0 ≡ getD l (pagesAt (listCount l) + pageSize * i + k) 0
   unfolding applyEntry
   entry-page k e h b =
       rw (eq-eqb _ _ e)
-      (splice-in d (4096 * changePage l i) (liveBytes l i) k (rw length-bytesAt b) (rw length-bytesAt h) ∙ getD-bytesAt _ _ _ k b)
+      (splice-in d (pageSize * changePage l i) (liveBytes l i) k (rw length-bytesAt b) (rw length-bytesAt h) ∙ getD-bytesAt _ _ _ k b)
 
 -- ---- the first n entries
 
@@ -77,8 +78,8 @@ module _ (l : List ℕ) (a : Account) (d : List ℕ) (good : listGood l a (lengt
   pages-differ i j h b e f q = omega (arith, keys-ascend j i h b)
 
   -- a byte of a page that no entry of this account names keeps its value
-  pub applied-other : (n p k : ℕ) → n ≤ listCount l → ((i : ℕ) → i < n → changeAccount l i ≡ a .0 → changePage l i ≢ p) → k < 4096
-      → getD (applied l a d n) (4096 * p + k) 0 ≡ getD d (4096 * p + k) 0
+  pub applied-other : (n p k : ℕ) → n ≤ listCount l → ((i : ℕ) → i < n → changeAccount l i ≡ a .0 → changePage l i ≢ p) → k < pageSize
+      → getD (applied l a d n) (pageSize * p + k) 0 ≡ getD d (pageSize * p + k) 0
   unfolding applied
   applied-other zero p k m h b = refl
   applied-other (suc n) p k m h b =
@@ -87,7 +88,7 @@ module _ (l : List ℕ) (a : Account) (d : List ℕ) (good : listGood l a (lengt
 
   -- a live byte of entry i of this account is the list's
   page-below : (n i k : ℕ) → n ≤ listCount l → i < n → changeAccount l i ≡ a .0 → k < changeLive l i
-      → getD (applied l a d n) (4096 * changePage l i + k) 0 ≡ getD l (pagesAt (listCount l) + 4096 * i + k) 0
+      → getD (applied l a d n) (pageSize * changePage l i + k) 0 ≡ getD l (pagesAt (listCount l) + pageSize * i + k) 0
   unfolding applied
   page-below zero i k m h e b = absurd (omega arith)
   page-below (suc n) i k m h e b =
@@ -103,5 +104,5 @@ module _ (l : List ℕ) (a : Account) (d : List ℕ) (good : listGood l a (lengt
 
   -- in the whole list applied, a live byte of an entry of this account is the list's
   pub applied-page : (i k : ℕ) → i < listCount l → changeAccount l i ≡ a .0 → k < changeLive l i
-      → getD (applied l a d (listCount l)) (4096 * changePage l i + k) 0 ≡ getD l (pagesAt (listCount l) + 4096 * i + k) 0
+      → getD (applied l a d (listCount l)) (pageSize * changePage l i + k) 0 ≡ getD l (pagesAt (listCount l) + pageSize * i + k) 0
   applied-page i k h e b = page-below (listCount l) i k (le-refl _) h e b

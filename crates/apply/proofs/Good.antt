@@ -1,23 +1,26 @@
 -- The tests of a change list, as facts by name. Assumes nothing.
-use Prim.Native.Nat.{ℕ, suc, _+_, _-_, _*_, _≤_, _<_}
+use Prim.Native.Nat.{ℕ, suc, _+_, _-_, _*_, _^_, _≤_, _<_}
 use mathlib.Core.Path.{_≡_, sym}
 use mathlib.Core.Bool.{true, false}
 use mathlib.Core.List.{List}
 use mathlib.Core.Logic.{⊎-elim}
 use native.Mathlib.Omega.{arith}
-use lib.ListN.{length}
+use lib.ListN.{length, getD}
 use lib.Dec.{eqb}
 use borrow.Author.Tests.{leb-true, ltb-true, eqb-true, eqb-false, ne-eqb, not-true}
+use Rattle.layout.specs.Page.{pageSize}
+use Rattle.layout.specs.List.{listHeader, changeSize, changeAt, pagesAt, listTotal}
 use Rattle.words.specs.Words.{wordAt}
-use Rattle.choice.proofs.Tests.{by-test, both-true, either-true}
+use Rattle.words.proofs.Word.{word-fits}
+use Rattle.choice.specs.Search.{every}
+use Rattle.choice.proofs.Every.{every-at}
+use Rattle.choice.proofs.Tests.{fails, both-true, either-true}
 use Rattle.snapshot.specs.declared.accounts.Account.{Account}
-use Rattle.frames.specs.declared.table.Page.{Page}
-use Rattle.access.specs.Pages.{liveOf}
-use Rattle.access.proofs.PageBytes.{live-inside}
+use Rattle.pages.specs.Pages.{liveOf}
+use Rattle.pages.specs.declared.Page.{Page}
+use Rattle.pages.proofs.PageBytes.{live-inside}
 use Rattle.changes.specs.Keys.{keyOf}
-use Rattle.changes.specs.List.{listHeader, pagesAt, listTotal, every}
-use Rattle.apply.specs.Apply.{listCount, changeAt, changeAccount, changePage, changeLive, layoutExact, ascends, changeGood, listGood}
-use Rattle.changes.proofs.Every.{every-at}
+use Rattle.apply.specs.Apply.{listCount, changeAccount, changePage, changeLive, layoutExact, ascends, changeGood, listGood}
 
 -- ---- the layout
 
@@ -46,11 +49,15 @@ layout-facts l e =
 
 -- where a fact fails, the test does
 pub layout-invalid : (l : List ℕ) → (LayoutFacts l → ⊥) → false ≡ layoutExact l
-layout-invalid l h = by-test (layoutExact l) (λ e. absurd (h (layout-facts l e))) (λ e. sym e)
+layout-invalid l h = sym (fails (layoutExact l) (λ e. h (layout-facts l e)))
 
 -- an entry of an exact layout lies in the list
-pub change-inside : (l : List ℕ) (i : ℕ) → layoutExact l ≡ true → i < listCount l → changeAt i + 8 ≤ length l
-change-inside l i e h = let f : LayoutFacts l = layout-facts l e in omega arith
+pub change-inside : (l : List ℕ) (i : ℕ) → ((k : ℕ) → getD l k 0 < 256) → layoutExact l ≡ true → i < listCount l
+    → (i < 2 ^ 32) × (changeAt i + changeSize ≤ length l)
+change-inside l i bytes e h =
+    let f : LayoutFacts l = layout-facts l e in
+    let n : listCount l < 2 ^ 32 = word-fits 4 l 0 bytes in
+    (omega arith, omega arith)
 
 -- ---- an entry
 
@@ -66,7 +73,7 @@ pageOf l i = record { 0 = changePage l i }
 pub record ChangeFacts (l : List ℕ) (a : Account) (size i : ℕ) : Type 0 where
   pub in-order : ascends l i ≡ true
   pub some-live : 1 ≤ changeLive l i
-  pub few-live : changeLive l i ≤ 4096
+  pub few-live : changeLive l i ≤ pageSize
   pub its-live : changeAccount l i ≡ a .0 → changeLive l i ≡ liveOf size (pageOf l i)
 
 module _ (l : List ℕ) (a : Account) (size i : ℕ) where
@@ -87,7 +94,7 @@ module _ (l : List ℕ) (a : Account) (size i : ℕ) where
       }
 
   -- the live bytes of an entry of this account lie in the data
-  pub page-inside : changeGood l a size i ≡ true → changeAccount l i ≡ a .0 → 4096 * changePage l i + changeLive l i ≤ size
+  pub page-inside : changeGood l a size i ≡ true → changeAccount l i ≡ a .0 → pageSize * changePage l i + changeLive l i ≤ size
   page-inside e h =
       let f : ChangeFacts l a size i = change-facts e in
       let q : changeLive l i ≡ liveOf size (pageOf l i) = f .its-live h in

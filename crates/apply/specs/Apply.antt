@@ -4,35 +4,33 @@ use mathlib.Core.Bool.{Bool, not}
 use mathlib.Core.List.{List}
 use lib.ListN.{length}
 use lib.Dec.{ltb, leb, eqb}
+use Rattle.layout.specs.List.{listHeader, pagesAt, listTotal}
+use Rattle.layout.specs.Page.{pageSize}
 use Rattle.words.specs.Words.{wordAt, bytesAt, splice}
+use Rattle.choice.specs.Search.{every}
 use Rattle.choice.specs.Choice.{pick, both, either}
 use Rattle.refusal.specs.Checks.{need, checkNumber, orKeep}
 use Rattle.refusal.specs.declared.Refusal.the-variants.{BadList}
 use Rattle.snapshot.specs.declared.accounts.Account.{Account}
-use Rattle.control.specs.Control.{pageSize}
-use Rattle.access.specs.Pages.{liveOf}
+use Rattle.pages.specs.Pages.{liveOf}
+use Rattle.changes.specs.Entry.{changeIn}
 use Rattle.changes.specs.Keys.{keyOf}
-use Rattle.changes.specs.List.{listHeader, changeSize, pagesAt, listTotal, every}
 
 -- n of a list
 abbrev pub listCount : List ℕ → ℕ
 listCount l = wordAt 4 l 0
 
--- where entry i starts
-abbrev pub changeAt : ℕ → ℕ
-changeAt i = listHeader + changeSize * i
-
 -- entry i's account
 abbrev pub changeAccount : List ℕ → ℕ → ℕ
-changeAccount l i = wordAt 2 l (changeAt i)
+changeAccount l i = changeIn l i .account .0
 
 -- entry i's page
 abbrev pub changePage : List ℕ → ℕ → ℕ
-changePage l i = wordAt 2 l (changeAt i + 2)
+changePage l i = changeIn l i .page .0
 
 -- entry i's live count
 abbrev pub changeLive : List ℕ → ℕ → ℕ
-changeLive l i = wordAt 4 l (changeAt i + 4)
+changeLive l i = changeIn l i .live
 
 -- "exactly that layout (it may be longer than its total ..)"
 unfoldable pub layoutExact : List ℕ → Bool

@@ -1,58 +1,58 @@
 // Applying a change list to an account's data.
-use access::pages::live_bytes;
-use changes::list::CHANGE;
-use changes::list::HEADER;
-use frames::table::Page;
+use changes::entry::read_change;
+use layout::list::LIST_HEADER;
+use layout::list::list_total;
+use layout::list::pages_at;
+use layout::page::PAGE;
+use pages::live_bytes;
+use pages::page_start;
 use refusal::DONE;
 use refusal::Refusal;
 use refusal::number;
 use snapshot::accounts::Account;
-use words::numbers::u16_at;
 use words::numbers::u32_at;
 use words::runs::copy;
 ghost use mathlib.Core.Path.{_≡_};
 ghost use mathlib.Core.Bool.{true};
-ghost use Prim.Native.Nat.{_+_, _≤_, _<_};
+ghost use Prim.Native.Nat.{_+_, _^_, _≤_, _<_};
 ghost use lib.ListN.{length};
-ghost use Rattle.changes.specs.List.{every};
+ghost use Rattle.layout.specs.List.{changeAt, changeSize};
+ghost use Rattle.choice.specs.Search.{every};
 ghost use Rattle.changes.specs.Keys.{keyOf};
-ghost use Rattle.apply.specs.Apply.{listCount, changeAt, changeAccount, changePage, ascends, layoutExact, changeGood, listGood, applyEntry, applied, applyNumber, applyData};
-
-// The length of a page.
-const PAGE: usize = 4096;
+ghost use Rattle.apply.specs.Apply.{listCount, changeAccount, changePage, ascends, layoutExact, changeGood, listGood, applyEntry, applied, applyNumber, applyData};
 
 // Whether the header says exactly the layout that its count gives, and the list holds all of it.
 fn layout_exact(l: &[u8]) -> bool
     ensures { λ r. ⌜ r ≡ layoutExact (now (l .entry)) ⌝ }
 {
-    if l.len() < HEADER {
+    if l.len() < LIST_HEADER {
         return false;
     }
     let n = u32_at(l, 0);
-    if u32_at(l, 4) != HEADER {
+    if u32_at(l, 4) != LIST_HEADER {
         return false;
     }
-    if u32_at(l, 8) != HEADER + CHANGE * n {
+    if u32_at(l, 8) != pages_at(n) {
         return false;
     }
-    if u32_at(l, 12) != HEADER + CHANGE * n + PAGE * n {
+    if u32_at(l, 12) != list_total(n) {
         return false;
     }
-    HEADER + CHANGE * n + PAGE * n <= l.len()
+    list_total(n) <= l.len()
 }
 
 // The account and the page of entry i as one number, in whose order they ascend.
 fn change_key(l: &[u8], i: usize) -> usize
-    requires { ⌜ changeAt i + 8 ≤ length (now l) ⌝ }
+    requires { ⌜ (i < 2 ^ 32) × (changeAt i + changeSize ≤ length (now l)) ⌝ }
     ensures { λ r. ⌜ r ≡ keyOf (changeAccount (now (l .entry)) i) (changePage (now (l .entry)) i) ⌝ }
 {
-    let at = HEADER + CHANGE * i;
-    65536 * (u16_at(l, at) as usize) + (u16_at(l, at + 2) as usize)
+    let e = read_change(l, i);
+    65536 * (e.account.0 as usize) + (e.page.0 as usize)
 }
 
 // Whether entry i has a higher key than the one before it.
 fn ascends(l: &[u8], i: usize) -> bool
-    requires { ⌜ changeAt i + 8 ≤ length (now l) ⌝ }
+    requires { ⌜ (i < 2 ^ 32) × (changeAt i + changeSize ≤ length (now l)) ⌝ }
     ensures { λ r. ⌜ r ≡ ascends (now (l .entry)) i ⌝ }
 {
     if i == 0 {
@@ -63,20 +63,19 @@ fn ascends(l: &[u8], i: usize) -> bool
 
 // Whether entry i is in order and its live count is one that it may have.
 fn change_good(l: &[u8], a: Account, size: usize, i: usize) -> bool
-    requires { ⌜ changeAt i + 8 ≤ length (now l) ⌝ }
+    requires { ⌜ (i < 2 ^ 32) × (changeAt i + changeSize ≤ length (now l)) ⌝ }
     ensures { λ r. ⌜ r ≡ changeGood (now (l .entry)) a size i ⌝ }
 {
     if ascends(l, i) {
-        let at = HEADER + CHANGE * i;
-        let live = u32_at(l, at + 4);
-        if live < 1 {
+        let e = read_change(l, i);
+        if e.live < 1 {
             return false;
         }
-        if PAGE < live {
+        if PAGE < e.live {
             return false;
         }
-        if u16_at(l, at) == a.0 {
-            return live == live_bytes(size, Page(u16_at(l, at + 2)));
+        if e.account.0 == a.0 {
+            return e.live == live_bytes(size, e.page);
         }
         return true;
     }
@@ -106,17 +105,10 @@ fn apply_entry(l: &[u8], a: Account, data: &mut [u8], i: usize)
     requires { ⌜ changeGood (now l) a (length (now «data»)) i ≡ true ⌝ }
     ensures { λ _. ⌜ now («data» .exit) ≡ applyEntry (now (l .entry)) a (now («data» .entry)) i ⌝ }
 {
-    let at = HEADER + CHANGE * i;
-    if u16_at(l, at) == a.0 {
+    let e = read_change(l, i);
+    if e.account.0 == a.0 {
         let n = u32_at(l, 0);
-        let page = u16_at(l, at + 2) as usize;
-        copy(
-            data,
-            PAGE * page,
-            l,
-            HEADER + CHANGE * n + PAGE * i,
-            u32_at(l, at + 4),
-        );
+        copy(data, page_start(e.page), l, pages_at(n) + PAGE * i, e.live);
     }
 }
 

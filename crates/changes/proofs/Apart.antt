@@ -8,18 +8,19 @@ use native.Mathlib.Omega.{arith}
 use lib.Dec.{eqb}
 use lib.ListN.{length, getD, length-map}
 use borrow.Author.Tests.{eqb-true, eqb-false, eq-eqb, ne-eqb, not-true, not-false}
+use Rattle.layout.specs.Control.{frameLimit}
+use Rattle.choice.specs.Ascending.{Ascending}
+use Rattle.choice.proofs.Ascending.{Member, getD-images, member-image, image-member, ascending-steps, ascending-once, ascending-same, picked-passes, passes-picked, picked-ascending}
+use Rattle.choice.proofs.Every.{every-at, every-all}
+use Rattle.choice.proofs.Tests.{fails}
 use Rattle.control.specs.Control.{frames}
-use Rattle.frames.specs.Table.{frameEntryOf, claims, frameOf}
+use Rattle.frames.specs.Table.{frameEntryOf, claims, frameOf, isFound, isCopy}
 use Rattle.frames.specs.declared.finding.Found.{Found}
 use Rattle.frames.specs.declared.finding.Found.the-variants.{At, Nothing}
 use Rattle.frames.proofs.Entries.{EntryRange, entry-range}
 use Rattle.frames.proofs.Claims.{IsCopy, claims-copy, copy-claims, frame-found, found-frame}
-use Rattle.frames.proofs.Loops.{fails}
-use Rattle.changes.specs.Keys.{keyAccount, keyPage, keyClaim, keyLimit, isFound, isCopied, copyKeys}
-use Rattle.changes.specs.List.{isCopy}
-use Rattle.changes.specs.Copies.{entryCode, codeKey, codeFrame, Ascending, codesBelow, keyTwice}
-use Rattle.changes.proofs.Every.{every-at, every-all}
-use Rattle.changes.proofs.Ascending.{Member, getD-images, member-image, image-member, ascending-steps, ascending-once, ascending-same, picked-passes, passes-picked, picked-ascending}
+use Rattle.changes.specs.Keys.{keyAccount, keyPage, keyClaim, keyLimit, isCopied, copyKeys}
+use Rattle.changes.specs.Copies.{entryCode, codeKey, codeFrame, codesBelow, keyTwice}
 use Rattle.changes.proofs.Codes.{entryKey, code-key, code-frame, code-once, CopyCode, codes-copies, copies-codes, codes-ascending}
 
 -- of the first n entries no two copies are of one page
@@ -33,7 +34,7 @@ abbrev pub differs : List ℕ → ℕ → Bool
 differs xs j = not (eqb (codeKey (getD xs j 0)) (codeKey (getD xs (suc j) 0)))
 
 -- where no two neighbours of an ascending list have one key, the keys ascend
-pub keys-ascending : (xs : List ℕ) → Ascending xs → keyTwice xs ≡ false → Ascending (map codeKey xs)
+keys-ascending : (xs : List ℕ) → Ascending xs → keyTwice xs ≡ false → Ascending (map codeKey xs)
 unfolding keyTwice
 keys-ascending xs a h =
     ascending-steps (map codeKey xs)
@@ -43,7 +44,7 @@ keys-ascending xs a h =
     let d : codeKey (getD xs j 0) ≡ codeKey (getD xs (suc j) 0) → ⊥ = eqb-false _ _ (not-true _ t) in
     rw (getD-images codeKey xs j (omega arith), getD-images codeKey xs (suc j) m) (omega (arith, a j (suc j) (omega arith) m)))
 
-module _ (c : List ℕ) (n : ℕ) (few : n ≤ 1024) where
+module _ (c : List ℕ) (n : ℕ) (few : n ≤ frameLimit) where
   -- where no two neighbours have one key, no two copies have
   pub once-apart : keyTwice (codesBelow c n) ≡ false → Apart c n
   once-apart h i j l m p q e =
@@ -92,7 +93,7 @@ module _ (c : List ℕ) (bytes : (k : ℕ) → getD c k 0 < 256) where
       let f : IsCopy (keyAccount k) (keyPage k) (frameEntryOf c i) = claims-copy c i (keyAccount k) (keyPage k) h in
       (eq-eqb _ _ (f .usage), omega (arith, f .account, f .page))
 
-  module _ (few : frames c ≤ 1024) (apart : Apart c (frames c)) where
+  module _ (few : frames c ≤ frameLimit) (apart : Apart c (frames c)) where
     -- the frame of a copy's page is the copy's
     entry-frame : (i : ℕ) → i < frames c → isCopy c i ≡ true → frameOf c (keyClaim (entryKey c i)) ≡ At (record { 0 = i })
     entry-frame i l p =
@@ -110,7 +111,7 @@ module _ (c : List ℕ) (bytes : (k : ℕ) → getD c k 0 < 256) where
     pub code-found : (x : ℕ) → Member x (codesBelow c (frames c)) → frameOf c (keyClaim (codeKey x)) ≡ At (record { 0 = codeFrame x })
     code-found x m =
         let u : CopyCode c (frames c) x = codes-copies c (frames c) x m in
-        let l : u .frame < 1024 = omega (arith, u .below) in
+        let l : u .frame < frameLimit = omega (arith, u .below) in
         rw (u .is, code-key c (u .frame) l, code-frame c (u .frame) l) (entry-frame (u .frame) (u .below) (u .copy))
 
     -- each code's key is that of a page with a copy

@@ -1,5 +1,4 @@
-pub mod Every
-pub mod Ascending
+pub mod Inserted
 pub mod Codes
 pub mod Apart
 pub mod Listable

@@ -1,47 +1,39 @@
 -- The two forms of the test that every copy can be listed: the definition's, entry by entry, and the code's, which looks for pages
 -- claimed twice among the ascending codes. Assumes nothing.
 use Prim.Native.Nat.{ℕ, _≤_, _<_}
-use mathlib.Core.Path.{_≡_, sym, _∙_}
+use mathlib.Core.Path.{_≡_}
 use mathlib.Core.Bool.{Bool, true, false, not}
 use mathlib.Core.List.{List}
 use native.Mathlib.Omega.{arith}
 use lib.ListN.{getD}
 use borrow.Author.Tests.{eqb-true, eq-eqb, not-true, not-false}
-use Rattle.choice.specs.Choice.{both}
-use Rattle.choice.proofs.Tests.{by-test, differ, both-true}
-use Rattle.snapshot.specs.Accounts.{known, entryValid}
-use Rattle.frames.specs.Table.{frameEntryOf, claims}
+use Rattle.layout.specs.Control.{frameLimit}
+use Rattle.choice.specs.Search.{every}
+use Rattle.choice.proofs.Every.{every-at, every-all}
+use Rattle.choice.proofs.Tests.{by-test, differ, both-true, fails}
+use Rattle.pages.specs.Pages.{pageThere}
+use Rattle.frames.specs.Table.{frameEntryOf, claims, isCopy}
 use Rattle.frames.specs.declared.finding.Claim.the-variants.{Copy}
 use Rattle.frames.proofs.Entries.{EntryRange, entry-range}
 use Rattle.frames.proofs.Claims.{claims-copy, copy-claims}
-use Rattle.frames.proofs.Loops.{fails}
-use Rattle.changes.specs.List.{isCopy, every, claimedBefore, copyListable, listable}
-use Rattle.changes.specs.Copies.{codesBelow, keyTwice, pageListable, entryListable}
-use Rattle.changes.proofs.Every.{every-at, every-all}
+use Rattle.changes.specs.List.{claimedBefore, copyListable, listable}
+use Rattle.changes.specs.Copies.{codesBelow, keyTwice, entryListable}
 use Rattle.changes.proofs.Apart.{Apart, once-apart, apart-once}
 
 -- entry j's page can be listed, but for a claim before it
 abbrev fit : List ℕ → List ℕ → ℕ → Bool
-fit s c j = pageListable s (frameEntryOf c j .account) (frameEntryOf c j .page)
+fit s c j = pageThere s (frameEntryOf c j .account) (frameEntryOf c j .page)
 
 -- entry i claims the page of entry j
 abbrev claimsToo : List ℕ → ℕ → ℕ → Bool
 claimsToo c j i = claims c (Copy (frameEntryOf c j .account) (frameEntryOf c j .page)) i
 
--- a copy can be listed where its page can and is not claimed before
-copy-listable : (s c : List ℕ) (j : ℕ) → copyListable s c j ≡ both (fit s c j) (not (claimedBefore c j))
-unfolding copyListable pageListable
-copy-listable s c j =
-    by-test (known s (frameEntryOf c j .account))
-    (λ e. rw e (by-test (entryValid s (frameEntryOf c j .account)) (λ q. rw q) (λ q. rw q)))
-    (λ e. rw e)
-
 -- what the definition's test says of a copy
 listed : (s c : List ℕ) (j : ℕ) → isCopy c j ≡ true → listable s c j ≡ true → (fit s c j ≡ true) × (not (claimedBefore c j) ≡ true)
-unfolding listable
-listed s c j q t = both-true (fit s c j) (not (claimedBefore c j)) (sym (copy-listable s c j) ∙ rw q at t)
+unfolding listable copyListable
+listed s c j q t = both-true (fit s c j) (not (claimedBefore c j)) (rw q at t)
 
-module _ (s c : List ℕ) (bytes : (k : ℕ) → getD c k 0 < 256) (n : ℕ) (few : n ≤ 1024) where
+module _ (s c : List ℕ) (bytes : (k : ℕ) → getD c k 0 < 256) (n : ℕ) (few : n ≤ frameLimit) where
   -- where every entry can be listed, no two copies are of one page
   listable-apart : every (listable s c) n ≡ true → Apart c n
   unfolding claimedBefore
@@ -68,14 +60,14 @@ module _ (s c : List ℕ) (bytes : (k : ℕ) → getD c k 0 < 256) (n : ℕ) (fe
 
   -- the code's test passes: every entry can be listed
   pub listable-all : every (entryListable s c) n ≡ true → keyTwice (codesBelow c n) ≡ false → every (listable s c) n ≡ true
-  unfolding entryListable listable
+  unfolding entryListable listable copyListable
   listable-all h d =
       every-all (listable s c) n
       (λ j m.
       by-test (isCopy c j)
       (λ q.
       let t : fit s c j ≡ true = rw q at (every-at (entryListable s c) n j h m) in
-      rw (q, copy-listable s c j, t, apart-before (once-apart c n few d) j m q))
+      rw (q, t, apart-before (once-apart c n few d) j m q))
       (λ q. rw q))
 
   -- where every entry can be listed, the code's test of each passes

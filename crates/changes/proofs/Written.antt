@@ -1,17 +1,20 @@
 -- Pieces one after the other, and how they are written: the list's parts put in one by one are the whole list put in at the start.
 -- Assumes nothing.
-use Prim.Native.Nat.{ℕ, suc, _+_, _*_, _-_, _≤_, _<_}
+use Prim.Native.Nat.{ℕ, suc, _+_, _*_, _-_, _≤_}
 use mathlib.Core.Path.{_≡_, refl, ap, _∙_}
 use mathlib.Core.List.{List, [], _∷_, _++_, map}
 use native.Mathlib.Nat.{add-zero, mul-zero, mul-suc}
 use native.Mathlib.Omega.{arith}
 use lib.ListN.{length, length-append}
+use Rattle.layout.specs.Page.{pageSize}
+use Rattle.layout.specs.List.{listHeader, changeSize, pagesAt}
 use Rattle.words.specs.Words.{wordBytes, splice, bytesAt, zeros}
 use Rattle.words.proofs.Splice.{splice-append, splice-swap}
-use Rattle.words.proofs.Word.{wordBytes-append}
 use Rattle.words.proofs.Run.{length-bytesAt, run-append, run-run, run-past}
-use Rattle.changes.specs.List.{pagesAt, listHeaderBytes, changeBytes, joined, padded}
-use Rattle.changes.proofs.Ascending.{Member, member-head, member-tail}
+use Rattle.choice.proofs.Ascending.{Member, member-head, member-tail}
+use Rattle.changes.specs.Entry.{changeBytes}
+use Rattle.changes.specs.List.{listHeaderBytes, joined, padded}
+use Rattle.changes.specs.declared.entry.Change.{Change}
 
 -- ---- pieces one after the other
 
@@ -48,40 +51,33 @@ rows-turn f g u w e d o a b x xs h =
 -- ---- the list's parts
 
 -- the header's length
-pub length-header : (n : ℕ) → length (listHeaderBytes n) ≡ 16
+pub length-header : (n : ℕ) → length (listHeaderBytes n) ≡ listHeader
 unfolding listHeaderBytes wordBytes
 length-header n = refl
 
 -- an entry's length
-pub length-change : (s : List ℕ) (k : ℕ) → length (changeBytes s k) ≡ 8
+pub length-change : (e : Change) → length (changeBytes e) ≡ changeSize
 unfolding changeBytes wordBytes
-length-change s k = refl
+length-change e = refl
 
 -- a page's length
-pub length-padded : (n : ℕ) (bs : List ℕ) → length (padded n bs) ≡ 4096
+pub length-padded : (n : ℕ) (bs : List ℕ) → length (padded n bs) ≡ pageSize
 unfolding padded
-length-padded n bs = length-bytesAt 4096 (bytesAt n bs 0) 0
-
--- an entry as one number of 8 bytes
-pub change-word : (a p l : ℕ) → a < 65536 → p < 65536
-    → wordBytes 8 (a + 65536 * p + 4294967296 * l) ≡ wordBytes 2 a ++ (wordBytes 2 p ++ wordBytes 4 l)
-change-word a p l h m =
-    let e : a + 65536 * p + 4294967296 * l ≡ a + 65536 * (p + 65536 * l) = omega arith in
-    rw e (wordBytes-append 2 6 a (p + 65536 * l) h ∙ ap (λ (x : List ℕ). wordBytes 2 a ++ x) (wordBytes-append 2 4 p l m))
+length-padded n bs = length-bytesAt pageSize (bytesAt n bs 0) 0
 
 -- a page is the first n bytes of the frame, then zeros
-pub padded-is : (n : ℕ) (p : List ℕ) (at : ℕ) → n ≤ 4096 → padded n (bytesAt 4096 p at) ≡ bytesAt n p at ++ zeros (4096 - n)
+pub padded-is : (n : ℕ) (p : List ℕ) (at : ℕ) → n ≤ pageSize → padded n (bytesAt pageSize p at) ≡ bytesAt n p at ++ zeros (pageSize - n)
 unfolding padded
 padded-is n p at h =
-    let b : List ℕ = bytesAt n (bytesAt 4096 p at) 0 in
-    let e : n + (4096 - n) ≡ 4096 = omega arith in
-    let u : b ≡ bytesAt n p at = rw add-zero at (run-run n 4096 p at 0 (omega arith)) in
-    let v : bytesAt n b 0 ≡ b = run-run n n (bytesAt 4096 p at) 0 0 (omega arith) in
-    let w : bytesAt (4096 - n) b (0 + n) ≡ zeros (4096 - n) = run-past (4096 - n) b (0 + n) (omega (arith, length-bytesAt n (bytesAt 4096 p at) 0)) in
-    rw e at (run-append n (4096 - n) b 0) ∙ rw (v, w, u)
+    let b : List ℕ = bytesAt n (bytesAt pageSize p at) 0 in
+    let e : n + (pageSize - n) ≡ pageSize = omega arith in
+    let u : b ≡ bytesAt n p at = rw add-zero at (run-run n pageSize p at 0 (omega arith)) in
+    let v : bytesAt n b 0 ≡ b = run-run n n (bytesAt pageSize p at) 0 0 (omega arith) in
+    let w : bytesAt (pageSize - n) b (0 + n) ≡ zeros (pageSize - n) = run-past (pageSize - n) b (0 + n) (omega (arith, length-bytesAt n (bytesAt pageSize p at) 0)) in
+    rw e at (run-append n (pageSize - n) b 0) ∙ rw (v, w, u)
 
 -- header, entries and pages put in one after the other are the list put in at the start
-pub parts-written : (out : List ℕ) (n : ℕ) (es ps : List ℕ) → length es ≡ 8 * n
-    → splice (splice (splice out 0 (listHeaderBytes n)) 16 es) (pagesAt n) ps ≡ splice out 0 (listHeaderBytes n ++ (es ++ ps))
+pub parts-written : (out : List ℕ) (n : ℕ) (es ps : List ℕ) → length es ≡ changeSize * n
+    → splice (splice (splice out 0 (listHeaderBytes n)) listHeader es) (pagesAt n) ps ≡ splice out 0 (listHeaderBytes n ++ (es ++ ps))
 parts-written out n es ps e =
     rw (splice-append out 0 (listHeaderBytes n) (es ++ ps), splice-append _ (0 + length (listHeaderBytes n)) es ps, length-header n, e)

@@ -1,20 +1,13 @@
 -- Document 01, "Change list and page view": the pages that copies claim, in ascending order. Assumes nothing.
-use Prim.Native.Nat.{ℕ, zero, suc, _+_, _*_, _/_, _%_}
-use mathlib.Core.Bool.{Bool, true, false}
-use mathlib.Core.List.{List, [], _∷_}
-use Rattle.choice.specs.Choice.{pick}
+use Prim.Native.Nat.{ℕ, _+_, _*_, _/_, _%_}
+use mathlib.Core.Bool.{Bool}
+use mathlib.Core.List.{List}
+use Rattle.choice.specs.Search.{picked}
 use Rattle.snapshot.specs.declared.accounts.Account.{Account}
-use Rattle.frames.specs.Table.{frameOf}
-use Rattle.frames.specs.declared.table.Page.{Page}
+use Rattle.pages.specs.declared.Page.{Page}
+use Rattle.frames.specs.Table.{frameOf, isFound}
 use Rattle.frames.specs.declared.finding.Claim.{Claim}
 use Rattle.frames.specs.declared.finding.Claim.the-variants.{Copy}
-use Rattle.frames.specs.declared.finding.Found.{Found}
-use Rattle.frames.specs.declared.finding.Found.the-variants.{At, Nothing}
-
--- the numbers at which the test passes, of the k from i on, in ascending order
-unfoldable pub picked : (ℕ → Bool) → ℕ → ℕ → List ℕ
-picked f i zero = []
-picked f i (suc k) = pick (f i) (i ∷ picked f (suc i) k) (picked f (suc i) k)
 
 -- account and page as one number, in whose order (account, page) ascends
 abbrev pub keyOf : ℕ → ℕ → ℕ
@@ -31,11 +24,6 @@ keyPage k = record { 0 = k % 65536 }
 -- the claim of a key
 abbrev pub keyClaim : ℕ → Claim
 keyClaim k = Copy (keyAccount k) (keyPage k)
-
--- a frame was found
-abbrev pub isFound : Found → Bool
-isFound (At f) = true
-isFound Nothing = false
 
 -- a copy claims the page of a key
 unfoldable pub isCopied : List ℕ → ℕ → Bool

@@ -1,49 +1,30 @@
 -- Document 01, "Change list and page view": the change list. Assumes nothing.
-use Prim.Native.Nat.{ℕ, zero, suc, _+_, _*_}
-use mathlib.Core.Bool.{Bool, true, not}
+use Prim.Native.Nat.{ℕ}
+use mathlib.Core.Bool.{Bool, not}
 use mathlib.Core.List.{List, [], _∷_, _++_}
 use lib.ListN.{length}
-use lib.Dec.{leb, eqb}
+use lib.Dec.{leb}
+use Rattle.layout.specs.List.{listHeader, pagesAt, listTotal}
+use Rattle.layout.specs.Page.{pageSize}
 use Rattle.words.specs.Words.{wordBytes, bytesAt, splice}
+use Rattle.choice.specs.Search.{every}
 use Rattle.choice.specs.Choice.{both, either}
 use Rattle.refusal.specs.Checks.{need, _then_, checkNumber, orKeep}
 use Rattle.refusal.specs.declared.Check.{Check}
 use Rattle.refusal.specs.declared.Refusal.the-variants.{Invalid, ShortOutput}
-use Rattle.snapshot.specs.Accounts.{known, entryValid}
-use Rattle.control.specs.Control.{pageSize, frames, buffersValid}
-use Rattle.frames.specs.Table.{frameEntryOf, usageCopy, claims, frameOf, frameStart}
+use Rattle.control.specs.Control.{frames, buffersValid}
+use Rattle.pages.specs.Pages.{frameStart, live, pageThere}
+use Rattle.frames.specs.Table.{frameEntryOf, claims, frameOf, isCopy}
 use Rattle.frames.specs.declared.finding.Claim.the-variants.{Copy}
 use Rattle.frames.specs.declared.finding.Found.{Found}
 use Rattle.frames.specs.declared.finding.Found.the-variants.{At, Nothing}
-use Rattle.access.specs.Pages.{live}
+use Rattle.changes.specs.Entry.{changeBytes, changeOf}
 use Rattle.changes.specs.Keys.{keyAccount, keyPage, keyClaim, copyKeys}
-
--- ---- layout
-
--- "Header of four u32"
-abbrev pub listHeader : ℕ
-listHeader = 16
-
--- "entries ..: u16, u16, u32 live bytes": the length of one
-abbrev pub changeSize : ℕ
-changeSize = 8
-
--- "16+8n": where the pages start
-abbrev pub pagesAt : ℕ → ℕ
-pagesAt n = listHeader + changeSize * n
-
--- "total 16+4,104n"
-abbrev pub listTotal : ℕ → ℕ
-listTotal n = pagesAt n + pageSize * n
+use Rattle.changes.specs.declared.entry.Change.{Change}
 
 -- "Header of four u32: count n, 16, 16+8n, total 16+4,104n"
 unfoldable pub listHeaderBytes : ℕ → List ℕ
 listHeaderBytes n = wordBytes 4 n ++ (wordBytes 4 listHeader ++ (wordBytes 4 (pagesAt n) ++ wordBytes 4 (listTotal n)))
-
--- "u16, u16, u32 live bytes, min(4,096, length−4,096·page)"
-unfoldable pub changeBytes : List ℕ → ℕ → List ℕ
-changeBytes s k =
-    wordBytes 2 (keyAccount k .0) ++ (wordBytes 2 (keyPage k .0) ++ wordBytes 4 (live s (keyAccount k) (keyPage k)))
 
 -- pieces, one for each of a list, one after the other
 unfoldable pub joined : (ℕ → List ℕ) → List ℕ → List ℕ
@@ -54,9 +35,9 @@ joined f (k ∷ ks) = f k ++ joined f ks
 unfoldable pub padded : ℕ → List ℕ → List ℕ
 padded n bytes = bytesAt pageSize (bytesAt n bytes 0) 0
 
--- the whole list of these keys, each with the page that `page` gives: header, entries, pages
-unfoldable pub listBytes : List ℕ → (ℕ → List ℕ) → List ℕ → List ℕ
-listBytes s page ks = listHeaderBytes (length ks) ++ (joined (changeBytes s) ks ++ joined page ks)
+-- the whole list of these keys, each with the entry and the page that `entry` and `page` give: header, entries, pages
+unfoldable pub listBytes : (ℕ → Change) → (ℕ → List ℕ) → List ℕ → List ℕ
+listBytes entry page ks = listHeaderBytes (length ks) ++ (joined (λ k. changeBytes (entry k)) ks ++ joined page ks)
 
 -- the frame's bytes, from its start on
 abbrev pub frameBytes : List ℕ → Found → List ℕ
@@ -69,18 +50,9 @@ pageBytes s c p k = padded (live s (keyAccount k) (keyPage k)) (frameBytes p (fr
 
 -- the change list
 unfoldable pub changeList : List ℕ → List ℕ → List ℕ → List ℕ
-changeList s c p = listBytes s (pageBytes s c p) (copyKeys c)
+changeList s c p = listBytes (changeOf s) (pageBytes s c p) (copyKeys c)
 
 -- ---- the call
-
--- entry i is a copy
-abbrev pub isCopy : List ℕ → ℕ → Bool
-isCopy c i = eqb (frameEntryOf c i .usage) usageCopy
-
--- every number below n passes the test
-unfoldable pub every : (ℕ → Bool) → ℕ → Bool
-every t zero = true
-every t (suc n) = both (every t n) (t n)
 
 -- the page of copy i is "claimed before": by an entry of a lower number
 unfoldable pub claimedBefore : List ℕ → ℕ → Bool
@@ -89,9 +61,7 @@ claimedBefore c i = not (every (λ j. not (claims c (Copy (frameEntryOf c i .acc
 -- "1 if a copy claims an account not below A, an unfit one, a page with no live bytes, or a page claimed before"
 unfoldable pub copyListable : List ℕ → List ℕ → ℕ → Bool
 copyListable s c i =
-    both (known s (frameEntryOf c i .account))
-    (both (entryValid s (frameEntryOf c i .account))
-    (both (leb 1 (live s (frameEntryOf c i .account) (frameEntryOf c i .page))) (not (claimedBefore c i))))
+    both (pageThere s (frameEntryOf c i .account) (frameEntryOf c i .page)) (not (claimedBefore c i))
 
 -- an entry that is no copy, or a copy that can be listed
 unfoldable pub listable : List ℕ → List ℕ → ℕ → Bool

@@ -1,3 +1,4 @@
 // What a transaction changed: the change list.
 pub mod copies;
+pub mod entry;
 pub mod list;

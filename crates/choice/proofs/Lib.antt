@@ -1,3 +1,7 @@
 pub mod Tests
 pub mod Lowest
 pub mod Counting
+pub mod Every
+pub mod Ascending
+pub mod Picked
+pub mod Paired

@@ -3,8 +3,7 @@
 use Prim.Native.Nat.{ℕ, zero, suc, _+_, _-_, _≤_, _<_}
 use mathlib.Core.Path.{_≡_, sym, _∙_}
 use mathlib.Core.Bool.{Bool, true, false}
-use mathlib.Core.Logic.{_≢_}
-use native.Mathlib.Decide.{decLt, ℕ-discrete}
+use native.Mathlib.Decide.{decLt}
 use native.Mathlib.Omega.{arith}
 use Rattle.choice.specs.Search.{seek, lowest}
 use Rattle.choice.proofs.Tests.{by-test, differ}
@@ -106,24 +105,3 @@ lowest-ext f g n h =
           let e : lowest g n ≡ n = omega (arith, lowest-le g n) in
           lowest-none f n (λ j l. h j l ∙ lowest-misses g n j (omega arith)) ∙ sym e
     ]
-
-module _ (f g : ℕ → Bool) (n x : ℕ) (same : (j : ℕ) → j ≢ x → g j ≡ f j) where
-  -- where only g passes at x, and f nowhere, x is the lowest
-  pub lowest-add : x < n → g x ≡ true → lowest f n ≡ n → lowest g n ≡ x
-  lowest-add l e z = lowest-is g n x l e (λ j m. same j (omega arith) ∙ lowest-misses f n j (omega arith))
-
-  -- where g fails at x, which is not the lowest, the lowest stays
-  pub lowest-keep : lowest f n < n → x ≢ lowest f n → g x ≡ false → lowest g n ≡ lowest f n
-  lowest-keep l d e =
-      lowest-is g n (lowest f n) l (same (lowest f n) (omega arith) ∙ lowest-hits f n l)
-      (λ j m. elim (ℕ-discrete j x) [ yes p ↦ rw p e | no p ↦ same j p ∙ lowest-misses f n j m ])
-
-  -- where g fails at x, the only index at which f passes, g has none
-  pub lowest-drop : ((j : ℕ) → j < n → f j ≡ true → j ≡ x) → g x ≡ false → lowest g n ≡ n
-  lowest-drop only e =
-      lowest-none g n
-      (λ j l.
-      elim (ℕ-discrete j x) [
-        | yes p ↦ rw p e
-        | no p ↦ same j p ∙ by-test (f j) (λ t. absurd (p (only j l t))) (λ t. t)
-      ])

@@ -15,6 +15,10 @@ by-test false f g = g refl
 pub differ : (b : Bool) → b ≡ true → b ≡ false → ⊥
 differ b p q = let z : _≡_ {A = ℕ} 0 1 = cc in omega arith
 
+-- a test that cannot pass fails
+pub fails : (b : Bool) → (b ≡ true → ⊥) → b ≡ false
+fails b h = by-test b (λ e. absurd (h e)) (λ e. e)
+
 -- where both pass, each does
 pub both-true : (x y : Bool) → both x y ≡ true → (x ≡ true) × (y ≡ true)
 both-true true y e = (refl, e)

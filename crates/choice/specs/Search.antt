@@ -1,7 +1,8 @@
--- The lowest index at which a test passes, and at how many it does. Assumes nothing.
+-- The lowest index at which a test passes, at how many it does, whether at all, and which. Assumes nothing.
 use Prim.Native.Nat.{ℕ, zero, suc}
-use mathlib.Core.Bool.{Bool}
-use Rattle.choice.specs.Choice.{pick}
+use mathlib.Core.Bool.{Bool, true}
+use mathlib.Core.List.{List, [], _∷_}
+use Rattle.choice.specs.Choice.{pick, both}
 
 -- the first of the k indices from i on at which the test passes; i + k where it passes at none
 unfoldable pub seek : (ℕ → Bool) → ℕ → ℕ → ℕ
@@ -16,3 +17,13 @@ lowest f n = seek f 0 n
 unfoldable pub count : (ℕ → Bool) → ℕ → ℕ
 count f zero = 0
 count f (suc n) = pick (f n) (suc (count f n)) (count f n)
+
+-- the test passes at every index below n
+unfoldable pub every : (ℕ → Bool) → ℕ → Bool
+every t zero = true
+every t (suc n) = both (every t n) (t n)
+
+-- the numbers at which the test passes, of the k from i on, in ascending order
+unfoldable pub picked : (ℕ → Bool) → ℕ → ℕ → List ℕ
+picked f i zero = []
+picked f i (suc k) = pick (f i) (i ∷ picked f (suc i) k) (picked f (suc i) k)

@@ -5,15 +5,13 @@ use mathlib.Core.Bool.{Bool, true, false}
 use mathlib.Core.List.{List}
 use lib.ListN.{length}
 use borrow.Author.Tests.{leb-true, eqb-true, ltb-true, le-leb, eq-eqb, lt-ltb}
+use Rattle.layout.specs.Page.{pageLimit, poolLength}
+use Rattle.layout.specs.Control.{shadowAt, tableAt, frameLimit, liveLimit, controlLength}
 use Rattle.words.specs.Words.{wordAt}
-use Rattle.choice.proofs.Tests.{by-test, both-true}
+use Rattle.choice.proofs.Tests.{fails, both-true}
 use Rattle.snapshot.specs.Header.{headerOf, accounts, snapshotValid}
 use Rattle.snapshot.specs.declared.header.Header.{Header}
-use Rattle.control.specs.Control.{shadowAt, tableAt, frameLimit, liveLimit, pageLimit, controlLength, poolLength, frames, invocations, current, controlValid, currentValid, controlReady, buffersValid}
-
--- a test that cannot pass fails
-fails : (b : Bool) → (b ≡ true → ⊥) → false ≡ b
-fails b h = by-test b (λ e. absurd (h e)) (λ e. sym e)
+use Rattle.control.specs.Control.{frames, invocations, current, controlValid, currentValid, controlReady, buffersValid}
 
 -- ---- the control block
 
@@ -54,7 +52,7 @@ module _ (c : List ℕ) where
 
   -- where a fact fails, the test does
   pub control-invalid : (ControlFacts c → ⊥) → false ≡ controlValid c
-  control-invalid h = fails (controlValid c) (λ e. h (control-facts e))
+  control-invalid h = sym (fails (controlValid c) (λ e. h (control-facts e)))
 
 -- ---- the current invocation
 
@@ -100,7 +98,7 @@ module _ (s c p : List ℕ) where
 
   -- where a fact fails, the test does
   pub buffers-invalid : (BuffersFacts s c p → ⊥) → false ≡ buffersValid s c p
-  buffers-invalid h = fails (buffersValid s c p) (λ e. h (buffers-facts e))
+  buffers-invalid h = sym (fails (buffersValid s c p) (λ e. h (buffers-facts e)))
 
   -- where the snapshot is valid, its control block and pool decide
   pub ready-decides : {h : Header} {r : Bool} → snapshotValid s ≡ true → h ≡ headerOf s → r ≡ controlReady c p (h .accounts)

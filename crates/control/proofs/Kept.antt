@@ -7,11 +7,12 @@ use mathlib.Core.Logic.{_⊎_, inl, inr, ⊎-elim}
 use mathlib.Core.List.{List}
 use native.Mathlib.Omega.{arith}
 use lib.ListN.{length, getD}
+use Rattle.layout.specs.Control.{shadowAt, shadowSize, tableAt, registersSize}
 use Rattle.words.specs.Words.{wordAt, bytesAt, splice}
 use Rattle.words.proofs.Splice.{length-splice, splice-before, splice-behind}
 use Rattle.words.proofs.Word.{word-ext}
 use Rattle.words.proofs.Run.{bytesAt-ext}
-use Rattle.control.specs.Control.{shadowAt, shadowSize, tableAt, registersSize, invocations, recordAt, invocationOf, registersOf, current, controlValid, currentValid, buffersValid}
+use Rattle.control.specs.Control.{invocations, recordAt, invocationOf, registersOf, current, controlValid, currentValid, buffersValid}
 use Rattle.control.proofs.Facts.{ControlFacts, BuffersFacts, control-facts, buffers-facts, buffers-valid}
 
 -- c′ is c but for bytes from lo on and below hi

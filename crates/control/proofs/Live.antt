@@ -7,9 +7,10 @@ use mathlib.Core.Logic.{inl, inr}
 use mathlib.Core.List.{List}
 use native.Mathlib.Omega.{arith}
 use lib.ListN.{length}
+use Rattle.layout.specs.Control.{tableAt, liveLimit}
 use Rattle.words.specs.Words.{wordAt, wordBytes, bytesAt}
 use Rattle.words.proofs.Word.{length-wordBytes, word-same}
-use Rattle.control.specs.Control.{tableAt, liveLimit, frames, invocations, setInvocations, controlValid, invocationOf, registersOf}
+use Rattle.control.specs.Control.{frames, invocations, setInvocations, controlValid, invocationOf, registersOf}
 use Rattle.control.proofs.Facts.{ControlFacts, control-facts, control-valid}
 use Rattle.control.proofs.Kept.{Only, only-splice, word-kept, run-kept, invocation-kept, registers-kept}
 

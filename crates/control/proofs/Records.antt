@@ -3,16 +3,17 @@
 use Prim.Native.Nat.{ℕ, _+_, _≤_, _<_}
 use mathlib.Core.Path.{_≡_, refl, sym, ap, _∙_}
 use mathlib.Core.Logic.{_≢_, inl, inr}
-use mathlib.Core.List.{List, [], _++_, append-assoc}
+use mathlib.Core.List.{List, _++_, append-assoc}
 use native.Mathlib.Nat.{add-zero}
 use native.Mathlib.Decide.{decLt}
 use native.Mathlib.Omega.{arith}
 use lib.ListN.{length}
-use Rattle.words.specs.Words.{wordAt, wordBytes, bytesAt, splice, zeros}
+use Rattle.layout.specs.Control.{shadowAt, shadowSize, tableAt, registersSize, liveLimit}
+use Rattle.words.specs.Words.{wordAt, wordBytes, splice, zeros}
 use Rattle.words.proofs.Splice.{length-splice, splice-append}
 use Rattle.words.proofs.Word.{word-before, word-in, word-zeros, word-same, length-wordBytes}
-use Rattle.words.proofs.Run.{bytesAt-ext, run-back, run-in, run-past, length-zeros, getD-zeros}
-use Rattle.control.specs.Control.{shadowAt, shadowSize, tableAt, registersSize, recordAt, controlValid, invocationOf, registersOf, invocationBytes, putInvocation, clearInvocation, regionAt, setPages, pagesOf}
+use Rattle.words.proofs.Run.{run-back, length-zeros}
+use Rattle.control.specs.Control.{recordAt, controlValid, invocationOf, registersOf, invocationBytes, putInvocation, clearInvocation, regionAt, setPages, pagesOf}
 use Rattle.control.specs.declared.shadow.Region.{Region}
 use Rattle.control.specs.declared.shadow.Region.the-variants.{Stack, Heap}
 use Rattle.control.specs.declared.shadow.Invocation.{Invocation}
@@ -46,12 +47,8 @@ module _ (k : ℕ) {c c′ : List ℕ} (o : OnlyRecord k c c′) where
   record-valid = valid-kept o (omega arith)
 
   -- every word of the frame table stays
-  pub table-kept : k ≤ 16 → (w j : ℕ) → tableAt ≤ j → wordAt w c′ j ≡ wordAt w c j
+  pub table-kept : k ≤ liveLimit → (w j : ℕ) → tableAt ≤ j → wordAt w c′ j ≡ wordAt w c j
   table-kept l w j h = word-kept o w j (inr (omega arith))
-
-  -- and every run of it
-  pub table-run-kept : k ≤ 16 → (n j : ℕ) → tableAt ≤ j → bytesAt n c′ j ≡ bytesAt n c j
-  table-run-kept l n j h = run-kept o n j (inr (omega arith))
 
 -- ---- what record k reads
 
@@ -96,7 +93,7 @@ module _ (c : List ℕ) (k : ℕ) (i : Invocation) (registers : List ℕ) where
   unfolding putInvocation invocationBytes wordBytes zeros
   put-only e = only-splice _ _ c (recordAt k) (invocationBytes i registers) (omega arith) (omega arith)
 
-  module _ (l : k ≤ 16) (long : tableAt ≤ length c) where
+  module _ (l : k ≤ liveLimit) (long : tableAt ≤ length c) where
     -- a word of the fields
     field-put : (o : ℕ) → o + 2 ≤ 8 → wordAt 2 (putInvocation c k i registers) (recordAt k + o) ≡ wordAt 2 (fieldBytes i) o
     field-put o h =
@@ -130,27 +127,13 @@ module _ (c : List ℕ) (k : ℕ) where
   unfolding clearInvocation
   clear-only = only-splice _ _ c (recordAt k) (zeros shadowSize) (omega arith) (omega (arith, length-zeros shadowSize))
 
-  module _ (l : k ≤ 16) (long : tableAt ≤ length c) where
+  module _ (l : k ≤ liveLimit) (long : tableAt ≤ length c) where
     -- a word of it is 0
     cleared : (w o : ℕ) → o + w ≤ shadowSize → wordAt w (clearInvocation c k) (recordAt k + o) ≡ 0
     unfolding clearInvocation
     cleared w o h =
         let z : length (zeros shadowSize) ≡ shadowSize = length-zeros shadowSize in
         word-in w c (recordAt k) (zeros shadowSize) o (omega arith) (omega arith) ∙ word-zeros w shadowSize o
-
-    -- the fields are zeros
-    pub invocation-cleared : invocationOf (clearInvocation c k) k ≡ record { program = record { 0 = 0 }; stack = 0; heap = 0 }
-    invocation-cleared =
-        sym (invocation-is (clearInvocation c k) k (recordAt k) 0 0 0 refl (sym (rw add-zero at (cleared 2 0 (omega arith)))) (sym (cleared 2 2 (omega arith))) (sym (cleared 2 4 (omega arith))))
-
-    -- and the registers
-    pub registers-cleared : registersOf (clearInvocation c k) k ≡ zeros registersSize
-    unfolding clearInvocation registersOf
-    registers-cleared =
-        let z : length (zeros shadowSize) ≡ shadowSize = length-zeros shadowSize in
-        run-in registersSize c (recordAt k) (zeros shadowSize) 8 (omega arith) (omega arith)
-        ∙ bytesAt-ext registersSize (zeros shadowSize) [] 8 0 (λ j m. getD-zeros shadowSize (8 + j))
-        ∙ run-past registersSize [] 0 (omega arith)
 
 -- ---- the size of a region
 
@@ -191,7 +174,7 @@ pages-other c k Heap n Stack h = word-kept (size-only c k Heap n) 2 (recordAt k 
 pages-other c k Heap n Heap h = absurd (h refl)
 
 -- the size is read back
-pub pages-same : (c : List ℕ) (k : ℕ) (r : Region) (n : ℕ) → k ≤ 16 → tableAt ≤ length c → n < 65536 → pagesOf (invocationOf (setPages c k r n) k) r ≡ n
+pub pages-same : (c : List ℕ) (k : ℕ) (r : Region) (n : ℕ) → k ≤ liveLimit → tableAt ≤ length c → n < 65536 → pagesOf (invocationOf (setPages c k r n) k) r ≡ n
 unfolding invocationOf setPages
 pages-same c k Stack n l long h = word-same 2 c (recordAt k + 2) n h (omega arith)
 pages-same c k Heap n l long h = word-same 2 c (recordAt k + 4) n h (omega arith)

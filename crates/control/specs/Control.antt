@@ -4,58 +4,14 @@ use mathlib.Core.Bool.{Bool}
 use mathlib.Core.List.{List, _++_}
 use lib.ListN.{length}
 use lib.Dec.{ltb, leb, eqb}
+use Rattle.layout.specs.Page.{pageLimit, poolLength}
+use Rattle.layout.specs.Control.{shadowAt, shadowSize, tableAt, stackAt, heapAt, registersAt, registersSize, liveLimit, frameLimit, controlLength}
 use Rattle.words.specs.Words.{wordAt, wordBytes, bytesAt, splice, zeros}
 use Rattle.choice.specs.Choice.{both}
 use Rattle.snapshot.specs.Header.{accounts, snapshotValid}
 use Rattle.control.specs.declared.shadow.Region.{Region}
 use Rattle.control.specs.declared.shadow.Region.the-variants.{Stack, Heap}
 use Rattle.control.specs.declared.shadow.Invocation.{Invocation}
-
--- ---- layout: each offset, width and limit once
-
--- "offset of shadow frames (16)"
-abbrev pub shadowAt : ℕ
-shadowAt = 16
-
--- "17 shadow frames of 264 bytes": the length of one
-abbrev pub shadowSize : ℕ
-shadowSize = 264
-
--- "offset of the frame table (4,504)": after 17 shadow records
-abbrev pub tableAt : ℕ
-tableAt = 4504
-
--- "F entries of 8 bytes"
-abbrev pub frameEntrySize : ℕ
-frameEntrySize = 8
-
--- "frame count F (0..1,024)"
-abbrev pub frameLimit : ℕ
-frameLimit = 1024
-
--- "live invocations D (1..16)"
-abbrev pub liveLimit : ℕ
-liveLimit = 16
-
--- "at most 4,096 pages of each region"
-abbrev pub pageLimit : ℕ
-pageLimit = 4096
-
--- "frames of 4,096 bytes"
-abbrev pub pageSize : ℕ
-pageSize = 4096
-
--- "32 registers of 8 bytes"
-abbrev pub registersSize : ℕ
-registersSize = 256
-
--- "Length 4,504+8F."
-abbrev pub controlLength : ℕ → ℕ
-controlLength f = tableAt + frameEntrySize * f
-
--- "Pool, written: F frames of 4,096 bytes."
-abbrev pub poolLength : ℕ → ℕ
-poolLength f = pageSize * f
 
 -- ---- header
 
@@ -96,13 +52,13 @@ unfoldable pub invocationOf : List ℕ → ℕ → Invocation
 invocationOf c k =
     record {
       program = record { 0 = wordAt 2 c (recordAt k) };
-      stack = wordAt 2 c (recordAt k + 2);
-      heap = wordAt 2 c (recordAt k + 4);
+      stack = wordAt 2 c (recordAt k + stackAt);
+      heap = wordAt 2 c (recordAt k + heapAt);
     }
 
 -- record k's registers
 unfoldable pub registersOf : List ℕ → ℕ → List ℕ
-registersOf c k = bytesAt registersSize c (recordAt k + 8)
+registersOf c k = bytesAt registersSize c (recordAt k + registersAt)
 
 -- a record's bytes
 unfoldable pub invocationBytes : Invocation → List ℕ → List ℕ
@@ -119,8 +75,8 @@ clearInvocation c k = splice c (recordAt k) (zeros shadowSize)
 
 -- where a region's size stands in a record
 abbrev pub regionAt : Region → ℕ
-regionAt Stack = 2
-regionAt Heap = 4
+regionAt Stack = stackAt
+regionAt Heap = heapAt
 
 -- the control block with another size of a region in record k
 unfoldable pub setPages : List ℕ → ℕ → Region → ℕ → List ℕ
@@ -130,10 +86,18 @@ setPages c k r n = splice c (recordAt k + regionAt r) (wordBytes 2 n)
 abbrev pub current : List ℕ → Invocation
 current c = invocationOf c (invocations c)
 
--- the size of a region: "n is read from frame D"
+-- the size of a region in a record's fields
 abbrev pub pagesOf : Invocation → Region → ℕ
 pagesOf i Stack = i .stack
 pagesOf i Heap = i .heap
+
+-- the size of a region in record k
+abbrev pub sizeIn : List ℕ → Region → ℕ → ℕ
+sizeIn c r k = pagesOf (invocationOf c k) r
+
+-- the size of a region: "n is read from frame D"
+abbrev pub sizeOf : List ℕ → Region → ℕ
+sizeOf c r = sizeIn c r (invocations c)
 
 -- ---- validity
 

@@ -3,16 +3,12 @@ use super::header::frame_count;
 use super::header::invocation_count;
 use super::header::valid;
 use super::shadow::invocation_at;
+use layout::page::PAGE;
+use layout::page::REGION;
 use snapshot::header::whole_header;
 ghost use mathlib.Core.Path.{_≡_};
 ghost use mathlib.Core.Bool.{true};
 ghost use Rattle.control.specs.Control.{controlValid, currentValid, controlReady, buffersValid};
-
-// The length of a page and of a frame.
-pub const PAGE: usize = 4096;
-
-// The most pages of a region.
-pub const PAGES: u16 = 4096;
 
 // Whether the current invocation names a program below the account count and has at most the most pages of each region.
 pub fn current_valid(c: &[u8], accounts: usize) -> bool
@@ -23,10 +19,10 @@ pub fn current_valid(c: &[u8], accounts: usize) -> bool
     if accounts <= i.program.0 as usize {
         return false;
     }
-    if PAGES < i.stack {
+    if REGION < i.stack as usize {
         return false;
     }
-    i.heap <= PAGES
+    i.heap as usize <= REGION
 }
 
 // Whether the control block, the pool's length and the current invocation keep their rules, with so many accounts.

@@ -1,28 +1,16 @@
 // The header of four u32: frame count, live invocations, and where the shadow records and the frame table start.
+use layout::control::FRAME_ENTRY;
+use layout::control::FRAMES;
+use layout::control::INVOCATIONS;
+use layout::control::SHADOW_AT;
+use layout::control::TABLE_AT;
 use words::numbers::u32_at;
 use words::numbers::write;
 ghost use mathlib.Core.Path.{_≡_};
 ghost use Prim.Native.Nat.{_≤_, _<_};
 ghost use lib.ListN.{length};
-ghost use Rattle.control.specs.Control.{frames, invocations, controlValid, setInvocations, tableAt};
-
-// Where the shadow records start.
-pub const SHADOW_AT: usize = 16;
-
-// The length of a shadow record.
-pub const SHADOW: usize = 264;
-
-// Where the frame table starts: after 17 shadow records.
-pub const TABLE_AT: usize = 4504;
-
-// The length of a frame entry.
-pub const ENTRY: usize = 8;
-
-// The most frames.
-pub const FRAMES: usize = 1024;
-
-// The most live invocations.
-pub const INVOCATIONS: usize = 16;
+ghost use Rattle.layout.specs.Control.{tableAt};
+ghost use Rattle.control.specs.Control.{frames, invocations, controlValid, setInvocations};
 
 // How many frames the pool has.
 pub fn frame_count(c: &[u8]) -> usize
@@ -72,5 +60,5 @@ pub fn valid(c: &[u8]) -> bool
     if u32_at(c, 12) != TABLE_AT {
         return false;
     }
-    c.len() == TABLE_AT + ENTRY * f
+    c.len() == TABLE_AT + FRAME_ENTRY * f
 }

@@ -3,28 +3,28 @@ use mathlib.Core.Path.{_≡_, refl, sym, ap, _∙_}
 use mathlib.Core.Bool.{Bool, true, false}
 use mathlib.Core.Logic.{_≢_}
 use mathlib.Core.List.{List}
-use Prim.Native.Nat.{ℕ, _+_, _≤_, _<_}
+use Prim.Native.Nat.{ℕ, _≤_, _<_}
 use native.Mathlib.Decide.{ℕ-discrete}
 use native.Mathlib.Omega.{arith}
 use lib.ListN.{length}
 use lib.Dec.{eqb}
 use borrow.Author.Tests.{eqb-true, eq-eqb}
-use Rattle.words.specs.Words.{splice}
-use Rattle.choice.proofs.Tests.{by-test, both-true}
+use Rattle.layout.specs.Control.{usageCopy}
+use Rattle.choice.proofs.Tests.{both-true}
 use Rattle.choice.proofs.Lowest.{lowest-ext}
 use Rattle.snapshot.specs.declared.accounts.Account.{Account}
-use Rattle.control.specs.Control.{tableAt, frames}
+use Rattle.control.specs.Control.{frames}
 use Rattle.control.specs.declared.shadow.Region.{Region}
 use Rattle.control.specs.declared.shadow.Region.the-variants.{Stack, Heap}
-use Rattle.frames.specs.Table.{entryEnd, frameEntryOf, putFrameEntry, usageCopy, usageOf, holds, claims, isFree, foundIn, frameOf}
-use Rattle.frames.specs.declared.table.Page.{Page}
-use Rattle.frames.specs.declared.table.Frame.{Frame}
+use Rattle.pages.specs.declared.Frame.{Frame}
+use Rattle.pages.specs.declared.Page.{Page}
+use Rattle.frames.specs.Table.{entryEnd, frameEntryOf, putFrameEntry, usageOf, holds, claims, isFree, foundIn, frameOf}
 use Rattle.frames.specs.declared.table.FrameEntry.{FrameEntry}
 use Rattle.frames.specs.declared.finding.Claim.{Claim}
 use Rattle.frames.specs.declared.finding.Claim.the-variants.{Copy, Anonymous}
 use Rattle.frames.specs.declared.finding.Found.the-variants.{At, Nothing}
 use Rattle.frames.proofs.Entries.{EntryRange, entry-other, entry-same}
-use Rattle.frames.proofs.Untouched.{frames-kept, claims-above}
+use Rattle.frames.proofs.Untouched.{frames-kept}
 use Rattle.frames.proofs.Found.{First, at-first, nothing-none, first-at, none-nothing}
 
 -- ---- what an entry holds
@@ -187,23 +187,3 @@ module _ (c : List ℕ) (i : ℕ) (e : FrameEntry) (r : EntryRange e) (l : entry
   -- where neither claims it, too
   pub frame-kept : (q : Claim) → claims c q i ≡ false → holds q e ≡ false → frameOf (putFrameEntry c i e) q ≡ frameOf c q
   frame-kept q h t = frame-same q (h ∙ sym t)
-
-  -- a page that only the old entry claimed, and that the new one does not hold, has no frame
-  pub frame-lost : (q : Claim) → ((j : ℕ) → j < frames c → claims c q j ≡ true → j ≡ i) → holds q e ≡ false
-      → frameOf (putFrameEntry c i e) q ≡ Nothing
-  frame-lost q only t =
-      none-frame (putFrameEntry c i e) q
-      (λ j m.
-      elim (ℕ-discrete j i) [
-        | yes p ↦ rw p (claims-same q ∙ t)
-        | no p ↦
-            claims-other c i e q j p
-            ∙ by-test (claims c q j) (λ s. absurd (p (only j (rw (frames-kept c i e) at m) s))) (λ s. s)
-      ])
-
--- ---- after a write below the table
-
--- where the number of frames stays, each page keeps its frame
-pub frame-above : (c : List ℕ) (at : ℕ) (bs : List ℕ) → at + length bs ≤ tableAt → frames (splice c at bs) ≡ frames c
-    → (q : Claim) → frameOf (splice c at bs) q ≡ frameOf c q
-frame-above c at bs l h q = frame-ext c q (splice c at bs) h (λ j m. claims-above c at bs l j q)

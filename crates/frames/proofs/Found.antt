@@ -10,8 +10,8 @@ use borrow.Author.Tests.{ltb-true, ltb-false, lt-ltb, le-ltb}
 use Rattle.choice.specs.Search.{lowest}
 use Rattle.choice.proofs.Tests.{by-test}
 use Rattle.choice.proofs.Lowest.{lowest-hits, lowest-misses, lowest-none, lowest-is}
+use Rattle.pages.specs.declared.Frame.{Frame}
 use Rattle.frames.specs.Table.{foundIn}
-use Rattle.frames.specs.declared.table.Frame.{Frame}
 use Rattle.frames.specs.declared.finding.Found.the-variants.{At, Nothing}
 
 -- i is the first index below n that passes the test

@@ -4,24 +4,21 @@ use mathlib.Core.Path.{_≡_, refl, sym, ap, _∙_}
 use mathlib.Core.Bool.{Bool, true, false}
 use mathlib.Core.Logic.{_≢_}
 use mathlib.Core.List.{List}
-use Prim.Native.Nat.{ℕ, suc, _+_, _≤_, _<_}
+use Prim.Native.Nat.{ℕ, suc, _≤_, _<_}
 use native.Mathlib.Decide.{ℕ-discrete}
-use native.Mathlib.Omega.{arith}
 use lib.ListN.{length}
 use borrow.Author.Tests.{ne-eqb}
-use Rattle.words.specs.Words.{splice}
 use Rattle.choice.specs.Search.{lowest, count}
-use Rattle.choice.proofs.Counting.{count-le, count-none, count-some, count-zero, count-ext, count-more, count-less}
-use Rattle.choice.proofs.Lowest.{lowest-misses}
-use Rattle.control.specs.Control.{tableAt, frames}
+use Rattle.choice.proofs.Counting.{count-some, count-ext, count-more, count-less}
+use Rattle.control.specs.Control.{frames}
+use Rattle.pages.specs.declared.Frame.{Frame}
 use Rattle.frames.specs.Table.{entryEnd, frameEntryOf, putFrameEntry, zeroEntry, freeFrameEntry, isFree, freeFrame, freeCount}
-use Rattle.frames.specs.declared.table.Frame.{Frame}
 use Rattle.frames.specs.declared.table.FrameEntry.{FrameEntry}
 use Rattle.frames.specs.declared.finding.Found.the-variants.{At, Nothing}
 use Rattle.frames.proofs.Entries.{EntryRange, entry-other, entry-same, zero-range}
-use Rattle.frames.proofs.Untouched.{frames-kept, free-above}
+use Rattle.frames.proofs.Untouched.{frames-kept}
 use Rattle.frames.proofs.Claims.{unused}
-use Rattle.frames.proofs.Found.{First, lowest-first, at-first, nothing-none, first-at, none-nothing}
+use Rattle.frames.proofs.Found.{First, lowest-first, at-first, nothing-none, first-at}
 
 -- ---- the free frame that is handed out next
 
@@ -41,22 +38,6 @@ module _ (c : List ℕ) where
   unfolding freeFrame freeCount
   free-some h =
       first-at (isFree c) (frames c) (lowest (isFree c) (frames c)) (lowest-first (isFree c) (frames c) (count-some (isFree c) (frames c) h))
-
-  -- where none is free, none is found
-  pub free-zero : freeCount c ≡ 0 → freeFrame c ≡ Nothing
-  unfolding freeFrame freeCount
-  free-zero h =
-      none-nothing (isFree c) (frames c) (λ j l. lowest-misses (isFree c) (frames c) j (omega (arith, count-zero (isFree c) (frames c) h)))
-
-  -- where none is found, the count is 0
-  pub none-count : freeFrame c ≡ Nothing → freeCount c ≡ 0
-  unfolding freeCount
-  none-count h = count-none (isFree c) (frames c) (free-none h)
-
-  -- at most all frames are free
-  pub free-count-le : freeCount c ≤ frames c
-  unfolding freeCount
-  free-count-le = count-le (isFree c) (frames c)
 
 -- ---- the entries that pass a test, after a write of entry i
 
@@ -95,20 +76,9 @@ module _ (c : List ℕ) (i : ℕ) (e : FrameEntry) (r : EntryRange e) (l : entry
   unfolding freeCount isFree
   free-count-taken h o p = rw (frames-kept c i e) (tally-lost c i e r l unused (frames c) h o (ne-eqb (e .usage) 0 p))
 
-  -- the entry is free where it was: as many
-  pub free-count-kept : isFree c i ≡ unused e → freeCount (putFrameEntry c i e) ≡ freeCount c
-  unfolding freeCount isFree
-  free-count-kept h = rw (frames-kept c i e) (tally-kept c i e r l unused (frames c) h)
-
 -- an entry is freed: one more
 pub free-count-freed : (c : List ℕ) (i : ℕ) → entryEnd i ≤ length c → i < frames c → isFree c i ≡ false
     → freeCount (freeFrameEntry c i) ≡ suc (freeCount c)
 unfolding freeCount isFree
 free-count-freed c i l h o =
     rw (frames-kept c i zeroEntry) (tally-taken c i zeroEntry zero-range l unused (frames c) h o refl)
-
--- a write below the table that keeps the number of frames: as many
-pub free-count-above : (c : List ℕ) (at : ℕ) (bs : List ℕ) → at + length bs ≤ tableAt → frames (splice c at bs) ≡ frames c
-    → freeCount (splice c at bs) ≡ freeCount c
-unfolding freeCount
-free-count-above c at bs l h = rw h (count-ext (isFree (splice c at bs)) (isFree c) (frames c) (λ j m. free-above c at bs l j))

@@ -1,4 +1,5 @@
 pub mod Entries
+pub mod OnlyTable
 pub mod Untouched
 pub mod Found
 pub mod Claims

@@ -10,7 +10,6 @@ use lib.Dec.{eqb}
 use lib.ListN.{getD}
 use Rattle.words.specs.Words.{wordAt}
 use Rattle.choice.specs.Search.{seek, lowest}
-use Rattle.choice.proofs.Tests.{by-test}
 use Rattle.choice.proofs.Lowest.{seek-hit, seek-miss, seek-end}
 use Rattle.frames.specs.Table.{frameEntryAt, frameField, isFree}
 
@@ -29,23 +28,20 @@ pub free-test : (c : List ℕ) (i : ℕ) → isFree c i ≡ eqb (getD c (frameEn
 unfolding isFree
 free-test c i = rw (byte-is 0 c i (frameEntryAt i) (omega arith))
 
--- a test that cannot pass fails
-pub fails : (b : Bool) → (b ≡ true → ⊥) → b ≡ false
-fails b h = by-test b (λ e. absurd (h e)) (λ e. e)
-
 -- nothing is looked at yet
 pub search-start : (f : ℕ → Bool) (n : ℕ) → seek f 0 (n - 0) ≡ lowest f n
 search-start f n = rw sub-zero
 
-module _ (f : ℕ → Bool) (n i : ℕ) where
-  -- the test passes at i, which is the lowest
-  pub search-found : i < n → f i ≡ true → seek f i (n - i) ≡ lowest f n → i ≡ lowest f n
+-- `found` is what the whole search finds
+module _ (f : ℕ → Bool) (n i : ℕ) {found : ℕ} where
+  -- the test passes at i, which is found
+  pub search-found : i < n → f i ≡ true → seek f i (n - i) ≡ found → i ≡ found
   search-found l e s = sym (seek-hit f i n l e) ∙ s
 
   -- the test fails at i: the search goes on
-  pub search-goes-on : i < n → f i ≡ false → seek f i (n - i) ≡ lowest f n → seek f (i + 1) (n - (i + 1)) ≡ lowest f n
+  pub search-goes-on : i < n → f i ≡ false → seek f i (n - i) ≡ found → seek f (i + 1) (n - (i + 1)) ≡ found
   search-goes-on l e s = seek-miss f i n l e ∙ s
 
   -- nothing is left to look at
-  pub search-ends : i ≤ n → n ≤ i → seek f i (n - i) ≡ lowest f n → n ≡ lowest f n
+  pub search-ends : i ≤ n → n ≤ i → seek f i (n - i) ≡ found → n ≡ found
   search-ends l m s = omega (arith, seek-end f i n m, s)

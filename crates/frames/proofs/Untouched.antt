@@ -5,69 +5,33 @@ use mathlib.Core.List.{List}
 use Prim.Native.Nat.{ℕ, _+_, _≤_}
 use native.Mathlib.Omega.{arith}
 use lib.ListN.{length}
-use Rattle.words.specs.Words.{wordAt, bytesAt, splice}
-use Rattle.words.proofs.Word.{word-before, word-behind}
-use Rattle.words.proofs.Run.{run-before}
-use Rattle.choice.proofs.Tests.{by-test}
-use Rattle.control.proofs.Facts.{control-facts}
-use Rattle.control.specs.Control.{tableAt, liveLimit, registersSize, recordAt, frames, invocations, invocationOf, registersOf, current, controlValid, currentValid, controlReady, buffersValid}
-use Rattle.frames.specs.Table.{frameEntryAt, frameField, frameEntryOf, frameEntryBytes, putFrameEntry, holds, claims, isFree}
+use Rattle.layout.specs.Control.{tableAt, liveLimit}
+use Rattle.words.specs.Words.{splice}
+use Rattle.words.proofs.Word.{word-behind}
+use Rattle.control.specs.Control.{frames, invocations, invocationOf, buffersValid}
+use Rattle.frames.specs.Table.{frameEntryAt, frameField, frameEntryOf, putFrameEntry, holds, claims, isFree}
 use Rattle.frames.specs.declared.table.FrameEntry.{FrameEntry}
 use Rattle.frames.specs.declared.finding.Claim.{Claim}
-use Rattle.frames.proofs.Entries.{length-put}
+use Rattle.frames.proofs.OnlyTable.{table-put, table-frames, table-invocations, table-invocation, table-buffers}
 
 -- ---- a write of an entry
 
 module _ (c : List ℕ) (i : ℕ) (e : FrameEntry) where
-  -- a word below the table is as it was
-  pub word-below : (w j : ℕ) → j + w ≤ tableAt → wordAt w (putFrameEntry c i e) j ≡ wordAt w c j
-  unfolding putFrameEntry
-  word-below w j h = word-before w c (frameEntryAt i) (frameEntryBytes e) j (omega arith)
-
-  -- a run of bytes below the table is as it was
-  pub run-below : (n j : ℕ) → j + n ≤ tableAt → bytesAt n (putFrameEntry c i e) j ≡ bytesAt n c j
-  unfolding putFrameEntry
-  run-below n j h = run-before n c (frameEntryAt i) (frameEntryBytes e) j (omega arith)
-
   -- the number of frames stays
   pub frames-kept : frames (putFrameEntry c i e) ≡ frames c
-  frames-kept = word-below 4 0 (omega arith)
+  frames-kept = table-frames (table-put c i e)
 
   -- the number of live invocations stays
   pub invocations-kept : invocations (putFrameEntry c i e) ≡ invocations c
-  invocations-kept = word-below 4 4 (omega arith)
+  invocations-kept = table-invocations (table-put c i e)
 
   -- each shadow record's fields stay
   pub invocation-kept : (k : ℕ) → k ≤ liveLimit → invocationOf (putFrameEntry c i e) k ≡ invocationOf c k
-  unfolding invocationOf
-  invocation-kept k h =
-      rw (word-below 2 (recordAt k) (omega arith), word-below 2 (recordAt k + 2) (omega arith), word-below 2 (recordAt k + 4) (omega arith))
+  invocation-kept = table-invocation (table-put c i e)
 
-  -- each shadow record's registers stay
-  pub registers-kept : (k : ℕ) → k ≤ liveLimit → registersOf (putFrameEntry c i e) k ≡ registersOf c k
-  unfolding registersOf
-  registers-kept k h = run-below registersSize (recordAt k + 8) (omega arith)
-
-  -- the header and the length stay fit or unfit
-  pub control-valid-kept : controlValid (putFrameEntry c i e) ≡ controlValid c
-  unfolding controlValid
-  control-valid-kept = rw (length-put c i e, frames-kept, invocations-kept, word-below 4 8 (omega arith), word-below 4 12 (omega arith))
-
-  -- the current invocation stays
-  pub current-kept : invocations c ≤ liveLimit → current (putFrameEntry c i e) ≡ current c
-  current-kept h = rw invocations-kept (invocation-kept (invocations c) h)
-
-  -- it stays fit or unfit
-  pub current-valid-kept : (n : ℕ) → invocations c ≤ liveLimit → currentValid (putFrameEntry c i e) n ≡ currentValid c n
-  unfolding currentValid
-  current-valid-kept n h = rw (current-kept h)
-
-  -- so do the three buffers
+  -- the three buffers stay fit or unfit
   pub buffers-valid-kept : (s p : List ℕ) → buffersValid s (putFrameEntry c i e) p ≡ buffersValid s c p
-  unfolding buffersValid controlReady
-  buffers-valid-kept s p =
-      rw (control-valid-kept, frames-kept)
-      (by-test (controlValid c) (λ t. rw (current-valid-kept _ (control-facts c t .few-live))) (λ t. rw t))
+  buffers-valid-kept = table-buffers (table-put c i e)
 
 -- ---- a write below the table
 

@@ -1,15 +1,15 @@
 -- Document 01, "Three lent buffers": the ledger's frame table, and "Copies". Assumes nothing.
 use Prim.Native.Nat.{ℕ, _+_, _*_}
-use mathlib.Core.Bool.{Bool}
+use mathlib.Core.Bool.{Bool, true, false}
 use mathlib.Core.List.{List, _++_}
 use lib.Dec.{ltb, eqb}
+use Rattle.layout.specs.Control.{tableAt, frameEntrySize, usageFree, usageCopy, usageStack, usageHeap}
 use Rattle.words.specs.Words.{wordAt, wordBytes, splice}
 use Rattle.choice.specs.Choice.{pick, both}
 use Rattle.choice.specs.Search.{lowest, count}
-use Rattle.control.specs.Control.{tableAt, frameEntrySize, frames, pageSize}
+use Rattle.control.specs.Control.{frames}
 use Rattle.control.specs.declared.shadow.Region.{Region}
 use Rattle.control.specs.declared.shadow.Region.the-variants.{Stack, Heap}
-use Rattle.frames.specs.declared.table.Frame.{Frame}
 use Rattle.frames.specs.declared.table.FrameEntry.{FrameEntry}
 use Rattle.frames.specs.declared.finding.Claim.{Claim}
 use Rattle.frames.specs.declared.finding.Claim.the-variants.{Copy, Anonymous}
@@ -60,14 +60,10 @@ freeFrameEntry c i = putFrameEntry c i zeroEntry
 
 -- ---- who claims what
 
--- "1 account copy"
-abbrev pub usageCopy : ℕ
-usageCopy = 1
-
 -- "2 stack, 3 heap"
 abbrev pub usageOf : Region → ℕ
-usageOf Stack = 2
-usageOf Heap = 3
+usageOf Stack = usageStack
+usageOf Heap = usageHeap
 
 -- "A copy claims by account and page, a stack or heap frame by page alone."
 abbrev pub holds : Claim → FrameEntry → Bool
@@ -78,9 +74,18 @@ holds (Anonymous r p) e = both (eqb (e .usage) (usageOf r)) (eqb (e .page .0) (p
 unfoldable pub claims : List ℕ → Claim → ℕ → Bool
 claims c q i = holds q (frameEntryOf c i)
 
+-- entry i is a copy
+abbrev pub isCopy : List ℕ → ℕ → Bool
+isCopy c i = eqb (frameEntryOf c i .usage) usageCopy
+
 -- "0 free"
 unfoldable pub isFree : List ℕ → ℕ → Bool
-isFree c i = eqb (frameEntryOf c i .usage) 0
+isFree c i = eqb (frameEntryOf c i .usage) usageFree
+
+-- a frame was found
+abbrev pub isFound : Found → Bool
+isFound (At f) = true
+isFound Nothing = false
 
 -- an index below n as the frame that was found, n as none
 unfoldable pub foundIn : ℕ → ℕ → Found
@@ -97,7 +102,3 @@ freeFrame c = foundIn (frames c) (lowest (isFree c) (frames c))
 -- how many frames are free
 unfoldable pub freeCount : List ℕ → ℕ
 freeCount c = count (isFree c) (frames c)
-
--- where a frame starts in the pool
-abbrev pub frameStart : Frame → ℕ
-frameStart f = pageSize * f .0

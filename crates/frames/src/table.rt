@@ -1,6 +1,8 @@
 // Frame entries: read, written and cleared.
-use control::header::ENTRY;
-use control::header::TABLE_AT;
+use layout::control::FRAME_ENTRY;
+use layout::control::TABLE_AT;
+use pages::Frame;
+use pages::Page;
 use snapshot::accounts::Account;
 use words::numbers::u16_at;
 use words::numbers::write;
@@ -8,12 +10,6 @@ ghost use mathlib.Core.Path.{_≡_};
 ghost use Prim.Native.Nat.{_+_, _≤_};
 ghost use lib.ListN.{length};
 ghost use Rattle.frames.specs.Table.{frameEntryAt, frameEntryOf, putFrameEntry, freeFrameEntry, entryEnd};
-
-// A page of an account's data or of a region, by its number: offset / 4,096.
-pub struct Page(pub u16);
-
-// A frame of the pool, by its number.
-pub struct Frame(pub u16);
 
 // A frame entry.
 pub struct FrameEntry {
@@ -28,7 +24,30 @@ pub struct FrameEntry {
 fn frame_entry_at(f: Frame) -> usize
     ensures { λ r. ⌜ r ≡ frameEntryAt (f .0) ⌝ }
 {
-    TABLE_AT + ENTRY * (f.0 as usize)
+    TABLE_AT + FRAME_ENTRY * (f.0 as usize)
+}
+
+// The use byte of entry i. A loop over the table asks for it first: of most entries it says enough.
+pub fn usage_at(c: &[u8], i: usize) -> u8
+    requires { ⌜ entryEnd i ≤ length (now c) ⌝ }
+    ensures { λ r. ⌜ r ≡ frameEntryOf (now (c .entry)) i .usage ⌝ }
+{
+    c[TABLE_AT + FRAME_ENTRY * i]
+}
+
+// Entry i of the table.
+pub fn entry_at(c: &[u8], i: usize) -> FrameEntry
+    requires { ⌜ entryEnd i ≤ length (now c) ⌝ }
+    ensures { λ r. ⌜ r ≡ frameEntryOf (now (c .entry)) i ⌝ }
+{
+    let at = TABLE_AT + FRAME_ENTRY * i;
+    FrameEntry {
+        usage: usage_at(c, i),
+        tag: c[at + 1],
+        account: Account(u16_at(c, at + 2)),
+        page: Page(u16_at(c, at + 4)),
+        zero: u16_at(c, at + 6),
+    }
 }
 
 // A frame's entry.
@@ -36,14 +55,7 @@ pub fn frame_entry(c: &[u8], f: Frame) -> FrameEntry
     requires { ⌜ entryEnd (f .0) ≤ length (now c) ⌝ }
     ensures { λ r. ⌜ r ≡ frameEntryOf (now (c .entry)) (f .0) ⌝ }
 {
-    let at = frame_entry_at(f);
-    FrameEntry {
-        usage: c[at],
-        tag: c[at + 1],
-        account: Account(u16_at(c, at + 2)),
-        page: Page(u16_at(c, at + 4)),
-        zero: u16_at(c, at + 6),
-    }
+    entry_at(c, f.0 as usize)
 }
 
 // Writes a frame's entry, in one store.

@@ -26,7 +26,7 @@ fieldsAnswer f = record { offset = f .offset; index = f .index; segment = f .«s
 
 -- a value and its number
 abbrev pub valueAnswer : Value → ValueAnswer
-valueAnswer v = record { value = v .value; number = v .number }
+valueAnswer v = record { value = v .value; number = v .outcome .number }
 
 -- a place: 1 in the snapshot, 2 in the control block, 3 zeros, 4 in the pool, 5 a frame that would be taken for a copy
 abbrev pub placeOf : Place → PlaceAnswer
@@ -34,7 +34,7 @@ placeOf (InSnapshot at) = record { at = at; frame = 0; account = 0; page = 0; pl
 placeOf (InControl at) = record { at = at; frame = 0; account = 0; page = 0; place = 2; number = done }
 placeOf Zeros = record { at = 0; frame = 0; account = 0; page = 0; place = 3; number = done }
 placeOf (InPool at) = record { at = at; frame = 0; account = 0; page = 0; place = 4; number = done }
-placeOf (Take at f a q) = record { at = at; frame = f .0; account = a .0; page = q .0; place = 5; number = done }
+placeOf (Take n) = record { at = n .at; frame = n .frame .0; account = n .account .0; page = n .page .0; place = 5; number = done }
 
 -- translation's answer: 0 where it is refused
 abbrev pub placeAnswer : Translation → PlaceAnswer

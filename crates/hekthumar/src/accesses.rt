@@ -1,4 +1,5 @@
 // Translation and the five accesses.
+use access::loads::Value;
 use access::loads::fetch;
 use access::loads::load;
 use access::loads::load_span;
@@ -15,8 +16,8 @@ ghost use lib.ListN.{length};
 ghost use Rattle.words.specs.Words.{wordBytes};
 ghost use Rattle.segments.specs.Kinds.{kindStore, kindStoreSpan};
 ghost use Rattle.translate.specs.Translate.{translateOf};
-ghost use Rattle.access.specs.Loads.{loadOf, fetchOf, loadSpanNumber, loadSpanOut};
-ghost use Rattle.access.specs.Stores.{storeNumber, storeControl, storePool};
+ghost use Rattle.access.specs.Loads.{loadOf, fetchOf, loadSpanOutcome, loadSpanOut};
+ghost use Rattle.access.specs.Stores.{storeOutcome, storeControl, storePool};
 ghost use Rattle.hekthumar.specs.Answers.{placeOf, placeAnswer, valueAnswer};
 
 // Translation's answer: a field that the case does not name is 0.
@@ -60,19 +61,19 @@ fn place_of(p: Place) -> PlaceAnswer
         Place::InControl(at) => at_place(2, at),
         Place::Zeros => at_place(3, 0),
         Place::InPool(at) => at_place(4, at),
-        Place::Take {
-            at,
-            frame,
-            account,
-            page,
-        } => PlaceAnswer {
-            at: at as u64,
-            frame: frame.0,
-            account: account.0,
-            page: page.0,
-            place: 5,
-            number: DONE,
-        },
+        Place::Take(n) => {
+            let f = n.frame;
+            let a = n.account;
+            let q = n.page;
+            PlaceAnswer {
+                at: n.at as u64,
+                frame: f.0,
+                account: a.0,
+                page: q.0,
+                place: 5,
+                number: DONE,
+            }
+        }
     }
 }
 
@@ -102,6 +103,17 @@ pub extern "C" fn hekthumar_translate(
     }
 }
 
+// A value and what its access answers.
+fn value_of(v: Value) -> ValueAnswer
+    ensures { λ r. ⌜ r ≡ valueAnswer v ⌝ }
+{
+    let o = v.outcome;
+    ValueAnswer {
+        value: v.value,
+        number: o.number,
+    }
+}
+
 // Loads 1, 2, 4 or 8 bytes.
 #[no_mangle]
 pub extern "C" fn hekthumar_load(
@@ -113,11 +125,7 @@ pub extern "C" fn hekthumar_load(
 ) -> ValueAnswer
     ensures { λ r. ⌜ r ≡ valueAnswer (loadOf (now (snapshot .entry)) (now (control .entry)) (now (pool .entry)) address size) ⌝ }
 {
-    let v = load(snapshot, control, pool, Address(address), size);
-    ValueAnswer {
-        value: v.value,
-        number: v.number,
-    }
+    value_of(load(snapshot, control, pool, Address(address), size))
 }
 
 // Fetches 1, 2, 4 or 8 bytes of the current program.
@@ -131,11 +139,7 @@ pub extern "C" fn hekthumar_fetch(
 ) -> ValueAnswer
     ensures { λ r. ⌜ r ≡ valueAnswer (fetchOf (now (snapshot .entry)) (now (control .entry)) (now (pool .entry)) address size) ⌝ }
 {
-    let v = fetch(snapshot, control, pool, Address(address), size);
-    ValueAnswer {
-        value: v.value,
-        number: v.number,
-    }
+    value_of(fetch(snapshot, control, pool, Address(address), size))
 }
 
 // Stores the lowest bytes of a value.
@@ -148,11 +152,12 @@ pub extern "C" fn hekthumar_store(
     size: usize,
     value: u64,
 ) -> u8
-    ensures { λ r. ⌜ r ≡ storeNumber (now (snapshot .entry)) (now (control .entry)) (now (pool .entry)) kindStore address size ⌝ }
+    ensures { λ r. ⌜ r ≡ storeOutcome (now (snapshot .entry)) (now (control .entry)) (now (pool .entry)) kindStore address size .number ⌝ }
     ensures { λ _. ⌜ now (control .exit) ≡ storeControl (now (snapshot .entry)) (now (control .entry)) (now (pool .entry)) kindStore address size ⌝ }
     ensures { λ _. ⌜ now (pool .exit) ≡ storePool (now (snapshot .entry)) (now (control .entry)) (now (pool .entry)) kindStore address (wordBytes size value) ⌝ }
 {
-    store(snapshot, control, pool, Address(address), size, value)
+    let o = store(snapshot, control, pool, Address(address), size, value);
+    o.number
 }
 
 // Fills the lent buffer.
@@ -164,10 +169,11 @@ pub extern "C" fn hekthumar_load_span(
     address: u64,
     out: &mut [u8],
 ) -> u8
-    ensures { λ r. ⌜ r ≡ loadSpanNumber (now (snapshot .entry)) (now (control .entry)) (now (pool .entry)) address (now (out .entry)) ⌝ }
+    ensures { λ r. ⌜ r ≡ loadSpanOutcome (now (snapshot .entry)) (now (control .entry)) (now (pool .entry)) address (now (out .entry)) .number ⌝ }
     ensures { λ _. ⌜ now (out .exit) ≡ loadSpanOut (now (snapshot .entry)) (now (control .entry)) (now (pool .entry)) address (now (out .entry)) ⌝ }
 {
-    load_span(snapshot, control, pool, Address(address), out)
+    let o = load_span(snapshot, control, pool, Address(address), out);
+    o.number
 }
 
 // Stores the whole of the lent buffer.
@@ -179,9 +185,10 @@ pub extern "C" fn hekthumar_store_span(
     address: u64,
     bytes: &[u8],
 ) -> u8
-    ensures { λ r. ⌜ r ≡ storeNumber (now (snapshot .entry)) (now (control .entry)) (now (pool .entry)) kindStoreSpan address (length (now (bytes .entry))) ⌝ }
+    ensures { λ r. ⌜ r ≡ storeOutcome (now (snapshot .entry)) (now (control .entry)) (now (pool .entry)) kindStoreSpan address (length (now (bytes .entry))) .number ⌝ }
     ensures { λ _. ⌜ now (control .exit) ≡ storeControl (now (snapshot .entry)) (now (control .entry)) (now (pool .entry)) kindStoreSpan address (length (now (bytes .entry))) ⌝ }
     ensures { λ _. ⌜ now (pool .exit) ≡ storePool (now (snapshot .entry)) (now (control .entry)) (now (pool .entry)) kindStoreSpan address (now (bytes .entry)) ⌝ }
 {
-    store_span(snapshot, control, pool, Address(address), bytes)
+    let o = store_span(snapshot, control, pool, Address(address), bytes);
+    o.number
 }

@@ -1,7 +1,7 @@
 // Addresses: join and split.
 ghost use mathlib.Core.Path.{_≡_};
-ghost use Rattle.hekthumar.specs.Answers.{addressAnswer, fieldsAnswer};
 ghost use Rattle.address.specs.Address.{joinOf, splitOf};
+ghost use Rattle.hekthumar.specs.Answers.{addressAnswer, fieldsAnswer};
 
 // An address, or 0 and the number of the refusal.
 #[repr(C)]

@@ -1,7 +1,7 @@
 // The change list, its application and the page view.
 use apply::apply;
 use changes::list::change_list;
-use frames::table::Page;
+use pages::Page;
 use refusal::DONE;
 use refusal::number;
 use snapshot::accounts::Account;

@@ -1,4 +1,5 @@
 // Begin, call, return and resize.
+use invoke::begin::Start;
 use invoke::begin::begin;
 use invoke::calls::call;
 use invoke::calls::return_from;
@@ -16,10 +17,13 @@ pub extern "C" fn hekthumar_begin(
     pool: &[u8],
     program: u16,
 ) -> u8
-    ensures { λ r. ⌜ r ≡ beginNumber (now (snapshot .entry)) (now (control .entry)) (now (pool .entry)) (record { 0 = program }) ⌝ }
-    ensures { λ _. ⌜ now (control .exit) ≡ beginControl (now (snapshot .entry)) (now (control .entry)) (now (pool .entry)) (record { 0 = program }) ⌝ }
+    ensures { λ r. ⌜ r ≡ beginNumber (now (snapshot .entry)) (now (control .entry)) (now (pool .entry)) (record { program = record { 0 = program } }) ⌝ }
+    ensures { λ _. ⌜ now (control .exit) ≡ beginControl (now (snapshot .entry)) (now (control .entry)) (now (pool .entry)) (record { program = record { 0 = program } }) ⌝ }
 {
-    begin(snapshot, control, pool, Account(program))
+    let start = Start {
+        program: Account(program),
+    };
+    begin(snapshot, control, pool, start)
 }
 
 // Calls a program with 256 bytes of registers.
@@ -62,8 +66,8 @@ pub extern "C" fn hekthumar_resize(
     pages: usize,
 ) -> u8
     ensures { λ r. ⌜ r ≡ resizeOf (now (snapshot .entry)) (now (control .entry)) (now (pool .entry)) region pages .number ⌝ }
-    ensures { λ _. ⌜ now (control .exit) ≡ resizeOf (now (snapshot .entry)) (now (control .entry)) (now (pool .entry)) region pages .control ⌝ }
-    ensures { λ _. ⌜ now (pool .exit) ≡ resizeOf (now (snapshot .entry)) (now (control .entry)) (now (pool .entry)) region pages .pool ⌝ }
+    ensures { λ _. ⌜ now (control .exit) ≡ resizeOf (now (snapshot .entry)) (now (control .entry)) (now (pool .entry)) region pages .after .control ⌝ }
+    ensures { λ _. ⌜ now (pool .exit) ≡ resizeOf (now (snapshot .entry)) (now (control .entry)) (now (pool .entry)) region pages .after .pool ⌝ }
 {
     resize(snapshot, control, pool, region, pages)
 }

@@ -10,9 +10,13 @@ use lib.ListN.{length, getD}
 use lib.Seq.{ext-getD}
 use lib.Dec.{eqb}
 use borrow.Author.Tests.{lt-ltb, le-leb, eq-eqb, eqb-true, ltb-true}
+use Rattle.layout.specs.Page.{pageSize}
+use Rattle.layout.specs.List.{listHeader, pagesAt, listTotal}
 use Rattle.words.specs.Words.{wordAt, bytesAt}
 use Rattle.words.proofs.Splice.{length-splice}
 use Rattle.words.proofs.Run.{getD-bytesAt}
+use Rattle.choice.proofs.Ascending.{Member, passes-picked, picked-ascending}
+use Rattle.choice.proofs.Every.{every-all}
 use Rattle.choice.proofs.Tests.{by-test, differ, both-intro}
 use Rattle.refusal.specs.declared.Refusal.the-variants.{BadList}
 use Rattle.refusal.proofs.Checks.{need-last}
@@ -21,16 +25,14 @@ use Rattle.snapshot.specs.Accounts.{known, entryOf, dataLength, entryValid, ori
 use Rattle.snapshot.specs.declared.accounts.Account.{Account}
 use Rattle.snapshot.proofs.Facts.{snapshot-facts, data-short, length-original}
 use Rattle.control.proofs.Facts.{buffers-facts}
-use Rattle.access.specs.Pages.{liveOf, live}
-use Rattle.access.proofs.PageBytes.{live-most, live-positive}
+use Rattle.control.specs.Buffers.{Buffers}
+use Rattle.pages.proofs.PageBytes.{live-most, live-positive}
+use Rattle.pages.specs.Pages.{liveOf, live}
 use Rattle.changes.specs.Keys.{keyOf, keyAccount, keyPage, keyLimit}
-use Rattle.changes.specs.List.{listHeader, pagesAt, listTotal, padded, changeListOut}
-use Rattle.apply.specs.Apply.{listCount, changeAccount, changePage, changeLive, layoutExact, ascends, changeGood, listGood, applied, applyNumber, applyData}
-use Rattle.changes.proofs.Every.{every-all}
-use Rattle.changes.proofs.Ascending.{Member, passes-picked, picked-ascending}
+use Rattle.changes.specs.List.{padded, changeListOut}
 use Rattle.changes.proofs.Written.{length-padded}
+use Rattle.apply.specs.Apply.{listCount, changeAccount, changePage, changeLive, layoutExact, ascends, changeGood, listGood, applied, applyNumber, applyData}
 use Rattle.apply.proofs.Applied.{length-applied, applied-other, applied-page}
-use Rattle.history.specs.Calls.{Buffers}
 use Rattle.history.specs.Replay.{Replay, touchedKeys, plainPage, expectedList}
 use Rattle.history.specs.Claims.{ApplyRight}
 use Rattle.history.proofs.Good.{LivePage, Good}
@@ -41,21 +43,21 @@ use Rattle.history.proofs.Reading.{listIn, ReadBack, read-back}
 -- ---- a page of the list
 
 -- it has 4,096 bytes
-length-page : (s : List ℕ) (r : Replay) (k : ℕ) → length (plainPage s r k) ≡ 4096
+length-page : (s : List ℕ) (r : Replay) (k : ℕ) → length (plainPage s r k) ≡ pageSize
 unfolding plainPage
 length-page s r k = length-padded _ _
 
 -- a live one is the plain copy's
 page-byte : (s : List ℕ) (r : Replay) (k j : ℕ) → j < live s (keyAccount k) (keyPage k)
-    → getD (plainPage s r k) j 0 ≡ getD (r .plain (k / 65536)) (4096 * (k % 65536) + j) 0
+    → getD (plainPage s r k) j 0 ≡ getD (r .plain (k / 65536)) (pageSize * (k % 65536) + j) 0
 unfolding plainPage padded
 page-byte s r k j h =
     let n : ℕ = live s (keyAccount k) (keyPage k) in
-    let m : n ≤ 4096 = live-most (dataLength (entryOf s (keyAccount k))) (keyPage k) in
-    let page : List ℕ = bytesAt 4096 (r .plain (k / 65536)) (4096 * (k % 65536)) in
-    getD-bytesAt 4096 (bytesAt n page 0) 0 j (omega arith)
+    let m : n ≤ pageSize = live-most (dataLength (entryOf s (keyAccount k))) (keyPage k) in
+    let page : List ℕ = bytesAt pageSize (r .plain (k / 65536)) (pageSize * (k % 65536)) in
+    getD-bytesAt pageSize (bytesAt n page 0) 0 j (omega arith)
     ∙ rw zero-add
-    (getD-bytesAt n page 0 j h ∙ rw zero-add (getD-bytesAt 4096 (r .plain (k / 65536)) (4096 * (k % 65536)) j (omega arith)))
+    (getD-bytesAt n page 0 j h ∙ rw zero-add (getD-bytesAt pageSize (r .plain (k / 65536)) (pageSize * (k % 65536)) j (omega arith)))
 
 -- ---- the list of a history
 
@@ -156,10 +158,10 @@ module _ (s : List ℕ) (b : Buffers) (r : Replay) (g : Good s b r) (out : List 
     left-length : length left ≡ length (r .plain (a .0))
     left-length = length-applied list a (original s a) (listCount list) ∙ sym (g .sized (a .0))
 
-    module _ (q j : ℕ) (low : a .0 < 65536) (paged : q < 65536) (inside : j < 4096) where
+    module _ (q j : ℕ) (low : a .0 < 65536) (paged : q < 65536) (inside : j < pageSize) where
       -- a byte of a touched page is the list's, which is the plain copy's
-      byte-touched : r .touched (keyOf (a .0) q) ≡ true → 4096 * q + j < length left
-          → getD left (4096 * q + j) 0 ≡ getD (r .plain (a .0)) (4096 * q + j) 0
+      byte-touched : r .touched (keyOf (a .0) q) ≡ true → pageSize * q + j < length left
+          → getD left (pageSize * q + j) 0 ≡ getD (r .plain (a .0)) (pageSize * q + j) 0
       byte-touched t h =
           let w : Member (keyOf (a .0) q) (touchedKeys r) =
           unfold touchedKeys in passes-picked (r .touched) 0 keyLimit (keyOf (a .0) q) (omega arith) (omega arith) t in
@@ -168,14 +170,14 @@ module _ (s : List ℕ) (b : Buffers) (r : Replay) (g : Good s b r) (out : List 
           let v : key i % 65536 ≡ q = omega arith in
           let x : changeAccount list i ≡ a .0 = account-is i (w .below) ∙ u in
           let y : changePage list i ≡ q = page-is i (w .below) ∙ v in
-          let n : 4096 * q + j < dataLength (entryOf s a) = omega (arith, length-applied list a (original s a) (listCount list), length-original s a) in
+          let n : pageSize * q + j < dataLength (entryOf s a) = omega (arith, length-applied list a (original s a) (listCount list), length-original s a) in
           let l : j < live s (keyAccount (key i)) (keyPage (key i)) = rw (u, v) (unfold liveOf in omega arith) in
           rw y at (applied-page list a (original s a) good-right i j (rw (back .count) (w .below)) x (rw (live-is i (w .below)) l))
           ∙ rw (back .count) (back .page-byte i (w .below) j inside)
           ∙ rw (u, v) at (page-byte s r (key i) j l)
 
       -- a byte of an untouched page is the original's, which is the plain copy's
-      byte-kept : r .touched (keyOf (a .0) q) ≡ false → getD left (4096 * q + j) 0 ≡ getD (r .plain (a .0)) (4096 * q + j) 0
+      byte-kept : r .touched (keyOf (a .0) q) ≡ false → getD left (pageSize * q + j) 0 ≡ getD (r .plain (a .0)) (pageSize * q + j) 0
       byte-kept t =
           applied-other list a (original s a) good-right (listCount list) q j (omega arith)
           (λ i h x y.
@@ -191,14 +193,14 @@ module _ (s : List ℕ) (b : Buffers) (r : Replay) (g : Good s b r) (out : List 
       applied-right =
           ext-getD 0 left (r .plain (a .0)) left-length
           (λ j l.
-          let e : j ≡ 4096 * (j / 4096) + j % 4096 = omega arith in
+          let e : j ≡ pageSize * (j / pageSize) + j % pageSize = omega arith in
           let m : a .0 < 65536 =
           omega (arith, ltb-true (a .0) (accounts s) below, snapshot-facts s (buffers-facts s (b .control) (b .pool) (g .buffers) .snapshot)) in
-          let q : j / 4096 < 65536 =
+          let q : j / pageSize < 65536 =
           omega (arith, length-applied list a (original s a) (listCount list), length-original s a, data-short s a fit) in
           rw e
-          (by-test (r .touched (keyOf (a .0) (j / 4096))) (λ t. byte-touched (j / 4096) (j % 4096) m q (omega arith) t (omega arith))
-          (byte-kept (j / 4096) (j % 4096) m q (omega arith))))
+          (by-test (r .touched (keyOf (a .0) (j / pageSize))) (λ t. byte-touched (j / pageSize) (j % pageSize) m q (omega arith) t (omega arith))
+          (byte-kept (j / pageSize) (j % pageSize) m q (omega arith))))
 
       -- "Applying it to the original data of an account with a fit entry answers 0 and leaves that plain copy."
       pub apply-right : ApplyRight s b r out a

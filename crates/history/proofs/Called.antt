@@ -7,21 +7,22 @@ use native.Mathlib.Decide.{decLt}
 use native.Mathlib.Omega.{arith}
 use lib.ListN.{length}
 use Rattle.choice.proofs.Tests.{by-test}
+use Rattle.refusal.proofs.Checks.{by-check}
 use Rattle.refusal.specs.declared.Check.the-variants.{Pass}
 use Rattle.snapshot.specs.Header.{accounts}
 use Rattle.snapshot.specs.declared.accounts.Account.{Account}
 use Rattle.control.specs.Control.{frames, invocations, depth}
 use Rattle.control.proofs.Facts.{CurrentFacts, current-facts}
+use Rattle.control.specs.Buffers.{Buffers}
 use Rattle.frames.specs.Table.{frameEntryOf}
 use Rattle.frames.proofs.Entries.{EntryRange, zero-range}
-use Rattle.regions.proofs.Pages.{claims-ext}
 use Rattle.invoke.specs.Invoke.{callCheck, called, callControl, returnCheck, leaves, returned, returnControl}
-use Rattle.invoke.proofs.Accepted.{CallFacts, call-facts, ReturnFacts, return-facts}
+use Rattle.invoke.proofs.Accepted.{CallFacts, call-facts, ReturnFacts, return-facts, program-known, program-fits}
 use Rattle.invoke.proofs.Depth.{called-frames, called-invocations, called-valid, called-entry, called-invocation, called-new, returned-frames, returned-invocations, returned-valid, returned-entry, returned-copy, returned-invocation}
-use Rattle.history.specs.Calls.{Buffers, call, return, stepOf, accepted}
-use Rattle.history.specs.Replay.{Replay, replayCall}
+use Rattle.regions.proofs.Pages.{claims-ext}
+use Rattle.history.specs.Calls.{call, return, stepOf, accepted, effect}
+use Rattle.history.specs.Replay.{Replay, replayEffect}
 use Rattle.history.proofs.Good.{copyOf, LiveRecord, Good}
-use Rattle.history.proofs.Passed.{by-check, program-known, program-fits}
 use Rattle.history.proofs.Others.{GoodAfter, keep-other, record-same, records-valid, replay-stays}
 
 module _ {s : List ℕ} {b : Buffers} {r : Replay} (g : Good s b r) where
@@ -68,7 +69,7 @@ module _ {s : List ℕ} {b : Buffers} {r : Replay} (g : Good s b r) where
 
   -- a call keeps the invariant
   pub keep-call : (a : Account) (registers : List ℕ) → GoodAfter s b r (call a registers)
-  unfolding stepOf callControl replayCall
+  unfolding stepOf callControl effect replayEffect
   keep-call a registers =
       replay-stays (call a registers) refl (accepted s b (call a registers))
       (by-check (callCheck s c (b .pool) a (length registers)) (λ e. rw e (called-good a registers e)) (λ n e. rw e g))
@@ -108,7 +109,7 @@ module _ {s : List ℕ} {b : Buffers} {r : Replay} (g : Good s b r) where
 
   -- a return keeps the invariant
   pub keep-return : (registers : List ℕ) → GoodAfter s b r (return registers)
-  unfolding stepOf returnControl replayCall
+  unfolding stepOf returnControl effect replayEffect
   keep-return registers =
       replay-stays (return registers) refl (accepted s b (return registers))
       (by-check (returnCheck s c (b .pool) (length registers)) (λ e. rw e (returned-good (length registers) e)) (λ n e. rw e g))

@@ -8,20 +8,20 @@ use native.Mathlib.Decide.{ℕ-discrete}
 use native.Mathlib.Omega.{arith}
 use lib.ListN.{length}
 use borrow.Author.Tests.{eq-eqb}
+use Rattle.layout.specs.Control.{frameLimit}
+use Rattle.choice.proofs.Picked.{length-picked}
 use Rattle.choice.specs.Choice.{either}
 use Rattle.choice.specs.Search.{count}
 use Rattle.choice.proofs.Tests.{by-test, differ}
 use Rattle.choice.proofs.Counting.{count-none, count-ext, count-more, count-le}
-use Rattle.control.specs.Control.{frames, frameLimit}
+use Rattle.control.specs.Control.{frames}
 use Rattle.control.proofs.Facts.{buffers-facts, control-facts}
-use Rattle.frames.specs.Table.{frameEntryOf, claims}
+use Rattle.control.specs.Buffers.{Buffers}
+use Rattle.frames.specs.Table.{frameEntryOf, claims, isCopy}
 use Rattle.frames.proofs.Claims.{IsCopy, claims-copy}
 use Rattle.changes.specs.Keys.{keyOf, keyAccount, keyPage, keyClaim, keyLimit, isCopied}
-use Rattle.changes.specs.List.{isCopy}
-use Rattle.history.specs.Calls.{Buffers}
 use Rattle.history.specs.Replay.{Replay, touchedKeys}
 use Rattle.history.proofs.Good.{Good}
-use Rattle.history.proofs.Picked.{length-picked}
 use Rattle.history.proofs.Listing.{Framed, copied-framed, claimed-copied, own-claim}
 
 -- ---- a test that passes somewhere

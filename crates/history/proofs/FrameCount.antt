@@ -6,37 +6,36 @@ use mathlib.Core.Bool.{true}
 use mathlib.Core.List.{List, [], _∷_}
 use native.Mathlib.Omega.{arith}
 use lib.ListN.{length}
-use Rattle.snapshot.specs.declared.accounts.Account.{Account}
+use Rattle.refusal.proofs.Checks.{check-passed}
 use Rattle.control.proofs.Facts.{buffers-facts}
-use Rattle.frames.specs.declared.table.Frame.{Frame}
-use Rattle.frames.specs.declared.table.Page.{Page}
+use Rattle.control.specs.Buffers.{Buffers}
 use Rattle.frames.proofs.Entries.{EntryRange}
 use Rattle.frames.proofs.Free.{free-found}
 use Rattle.segments.specs.Kinds.{kindStore, kindStoreSpan}
+use Rattle.translate.specs.declared.place.NewCopy.{NewCopy}
 use Rattle.translate.specs.Translate.{translateOf}
 use Rattle.translate.specs.declared.place.Place.the-variants.{InSnapshot, InControl, Zeros, InPool, Take}
 use Rattle.translate.specs.declared.place.Translation.{Translation}
 use Rattle.translate.specs.declared.place.Translation.the-variants.{Allowed, Refused}
 use Rattle.translate.proofs.Accepted.{accepted}
 use Rattle.translate.proofs.Stores.{Taken, take-place}
-use Rattle.access.specs.Pages.{copyEntry}
-use Rattle.access.specs.Stores.{controlAfter, storeControl}
+use Rattle.access.specs.Stores.{copyEntry, controlAfter, storeControl}
+use Rattle.invoke.specs.declared.begin.Start.{Start}
 use Rattle.invoke.specs.Invoke.{beginNumber, beginControl, beginCheck}
 use Rattle.lifecycle.specs.Regions.{Rights, framesWith}
 use Rattle.lifecycle.proofs.After.{begun-right, begin-right, call-right, return-right, resize-right}
 use Rattle.lifecycle.proofs.Copied.{copied-right}
 use Rattle.lifecycle.proofs.Counted.{in-use-pages}
-use Rattle.history.specs.Calls.{Call, begin, translation, load, store, fetch, load-span, store-span, call, return, resize, change-list, page-view, Buffers, stepOf, run}
+use Rattle.history.specs.Calls.{Call, begin, translation, load, store, fetch, load-span, store-span, call, return, resize, change-list, page-view, stepOf, run}
 use Rattle.history.specs.Calls as calls
 use Rattle.history.specs.Replay.{started, replay, feed}
 use Rattle.history.specs.Claims.{FrameCountRule}
-use Rattle.history.proofs.Passed.{check-passed}
 use Rattle.history.proofs.Counted.{touched-count}
 use Rattle.history.proofs.Theorem.{good-after}
 
 -- a copy's entry fits its widths
-copy-range : (c : List ℕ) (kind a at : ℕ) (f : Frame) (b : Account) (q : Page) → Taken c kind a at f b q → EntryRange (copyEntry b q)
-copy-range c kind a at f b q t =
+copy-range : (c : List ℕ) (kind a : ℕ) (n : NewCopy) → Taken c kind a n → EntryRange (copyEntry n)
+copy-range c kind a n t =
     rw (t .account, t .page)
     (record { usage = omega arith; tag = omega arith; account = omega arith; page = omega arith; zero = omega arith })
 
@@ -48,16 +47,16 @@ module _ (s c p : List ℕ) (kind a n : ℕ) (h : Rights c) where
   stored (Allowed (InControl at)) e = h
   stored (Allowed Zeros) e = h
   stored (Allowed (InPool at)) e = h
-  stored (Allowed (Take at f b q)) e =
-      let t = take-place s c p kind a n e in
+  stored (Allowed (Take t)) e =
+      let u = take-place s c p kind a n e in
       let v = buffers-facts s c p (accepted s c p kind a n e refl .buffers) in
-      let free = free-found c f (t .free) in
-      copied-right c (f .0) (copyEntry b q) (v .control) (free .below) (free .passes) (copy-range c kind a at f b q t) refl h
+      let free = free-found c (t .frame) (u .free) in
+      copied-right c (t .frame .0) (copyEntry t) (v .control) (free .below) (free .passes) (copy-range c kind a t u) refl h
 
 -- every call keeps the invariant of stack and heap
 keep-rights : (s : List ℕ) (b : Buffers) → Rights (b .control) → (k : Call) → Rights (stepOf s b k .after .control)
 unfolding stepOf storeControl
-keep-rights s b h (begin a) = begin-right s (b .control) (b .pool) a h
+keep-rights s b h (begin x) = begin-right s (b .control) (b .pool) x h
 keep-rights s b h (translation kind a n) = h
 keep-rights s b h (load a n) = h
 keep-rights s b h (store a n v) = stored s (b .control) (b .pool) kindStore a n h (translateOf s (b .control) (b .pool) kindStore a n) refl
@@ -78,24 +77,24 @@ rights-run s b h [] = h
 rights-run s b h (k ∷ ks) = rights-run s (stepOf s b k .after) (keep-rights s b h k) ks
 
 -- an accepted begin makes it hold
-rights-begun : (s : List ℕ) (b : Buffers) (a : Account) → calls.accepted s b (begin a) ≡ true → Rights (stepOf s b (begin a) .after .control)
+rights-begun : (s : List ℕ) (b : Buffers) (x : Start) → calls.accepted s b (begin x) ≡ true → Rights (stepOf s b (begin x) .after .control)
 unfolding stepOf beginNumber beginControl
-rights-begun s b a e =
-    let x = check-passed (beginCheck s (length (b .control)) (length (b .pool)) a) e in
-    rw x (begun-right s (b .control) (b .pool) a x)
+rights-begun s b x e =
+    let y = check-passed (beginCheck s (length (b .control)) (length (b .pool)) x) e in
+    rw y (begun-right s (b .control) (b .pool) x y)
 
 -- after every history that opens with an accepted begin
-pub rights-after : (s : List ℕ) (b : Buffers) (a : Account) (ks : List Call) → calls.accepted s b (begin a) ≡ true
-    → Rights (run s b (begin a ∷ ks) .control)
+pub rights-after : (s : List ℕ) (b : Buffers) (x : Start) (ks : List Call) → calls.accepted s b (begin x) ≡ true
+    → Rights (run s b (begin x ∷ ks) .control)
 unfolding run
-rights-after s b a ks e = rights-run s (stepOf s b (begin a) .after) (rights-begun s b a e) ks
+rights-after s b x ks e = rights-run s (stepOf s b (begin x) .after) (rights-begun s b x e) ks
 
 -- the frame count rule
 pub frame-count-rule : FrameCountRule
 unfolding FrameCountRule framesWith
-frame-count-rule s b a ks e =
-    let end = run s b (begin a ∷ ks) in
-    let plain = replay s (started s) (feed s b (begin a ∷ ks)) in
-    let n = in-use-pages (end .control) (rights-after s b a ks e) in
-    let t = touched-count s end plain (good-after s b a ks e .0) in
+frame-count-rule s b x ks e =
+    let end = run s b (begin x ∷ ks) in
+    let plain = replay s (started s) (feed s b (begin x ∷ ks)) in
+    let n = in-use-pages (end .control) (rights-after s b x ks e) in
+    let t = touched-count s end plain (good-after s b x ks e .0) in
     omega (arith, n, t)

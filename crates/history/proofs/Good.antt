@@ -5,15 +5,16 @@ use mathlib.Core.Path.{_≡_}
 use mathlib.Core.Bool.{true, false}
 use mathlib.Core.List.{List}
 use lib.ListN.{length, getD}
+use Rattle.layout.specs.Page.{pageLimit, pageSize}
 use Rattle.snapshot.specs.Header.{accounts}
 use Rattle.snapshot.specs.Accounts.{entryOf, entryValid, dataLength, original}
-use Rattle.control.specs.Control.{pageLimit, frames, invocations, invocationOf, buffersValid}
+use Rattle.control.specs.Control.{frames, invocations, invocationOf, buffersValid}
+use Rattle.control.specs.Buffers.{Buffers}
 use Rattle.frames.specs.Table.{frameEntryOf, claims}
 use Rattle.frames.specs.declared.finding.Claim.{Claim}
 use Rattle.frames.specs.declared.finding.Claim.the-variants.{Copy}
 use Rattle.frames.proofs.Entries.{EntryRange}
 use Rattle.changes.specs.Keys.{keyOf, keyLimit, isCopied}
-use Rattle.history.specs.Calls.{Buffers}
 use Rattle.history.specs.Replay.{Replay}
 
 -- the claim of page p of account a
@@ -30,7 +31,7 @@ pub record LiveRecord (s c : List ℕ) (k : ℕ) : Type 0 where
 pub record LivePage (s : List ℕ) (a p : ℕ) : Type 0 where
   pub known : a < accounts s
   pub entry : entryValid s (record { 0 = a }) ≡ true
-  pub present : 4096 * p < dataLength (entryOf s (record { 0 = a }))
+  pub present : pageSize * p < dataLength (entryOf s (record { 0 = a }))
 
 pub record Good (s : List ℕ) (b : Buffers) (r : Replay) : Type 0 where
   -- headers, lengths and record D
@@ -50,8 +51,8 @@ pub record Good (s : List ℕ) (b : Buffers) (r : Replay) : Type 0 where
   -- every claimed page has live bytes in a valid account
   pub live : (a p i : ℕ) → i < frames (b .control) → claims (b .control) (copyOf a p) i ≡ true → LivePage s a p
   -- a page that has a frame is there as the plain copy, with zeros behind its end
-  pub held : (a p i : ℕ) → i < frames (b .control) → claims (b .control) (copyOf a p) i ≡ true → (k : ℕ) → k < 4096
-      → getD (b .pool) (4096 * i + k) 0 ≡ getD (r .plain a) (4096 * p + k) 0
+  pub held : (a p i : ℕ) → i < frames (b .control) → claims (b .control) (copyOf a p) i ≡ true → (k : ℕ) → k < pageSize
+      → getD (b .pool) (pageSize * i + k) 0 ≡ getD (r .plain a) (pageSize * p + k) 0
   -- a page that has none is as the original
-  pub kept : (a p : ℕ) → a < 65536 → p < 65536 → r .touched (keyOf a p) ≡ false → (k : ℕ) → k < 4096
-      → getD (r .plain a) (4096 * p + k) 0 ≡ getD (original s (record { 0 = a })) (4096 * p + k) 0
+  pub kept : (a p : ℕ) → a < 65536 → p < 65536 → r .touched (keyOf a p) ≡ false → (k : ℕ) → k < pageSize
+      → getD (r .plain a) (pageSize * p + k) 0 ≡ getD (original s (record { 0 = a })) (pageSize * p + k) 0

@@ -4,9 +4,10 @@ use mathlib.Core.Path.{_≡_}
 use mathlib.Core.Bool.{true}
 use mathlib.Core.List.{List, [], _∷_}
 use Prim.Native.Nat.{ℕ}
-use Rattle.snapshot.specs.declared.accounts.Account.{Account}
-use Rattle.history.specs.Calls.{Call, begin, Buffers, stepOf, accepted, run}
-use Rattle.history.specs.Replay.{Replay, started, replayCall, replayStep, replay, feed}
+use Rattle.control.specs.Buffers.{Buffers}
+use Rattle.invoke.specs.declared.begin.Start.{Start}
+use Rattle.history.specs.Calls.{Call, begin, stepOf, accepted, run, effect}
+use Rattle.history.specs.Replay.{Replay, started, replayEffect, replayStep, replay, feed}
 use Rattle.history.specs.Claims.{LoadRight, LoadsRight}
 use Rattle.history.proofs.Good.{Good}
 use Rattle.history.proofs.Others.{GoodAfter}
@@ -24,9 +25,9 @@ module _ (step : (s : List ℕ) (b : Buffers) (r : Replay) → Good s b r → (k
       (u .0, (right s b r g k, u .1))
 
   -- so it does from an accepted begin on, whatever the buffers held before
-  pub from-begin : (s : List ℕ) (b : Buffers) (a : Account) (ks : List Call) → accepted s b (begin a) ≡ true
-      → Good s (run s b (begin a ∷ ks)) (replay s (started s) (feed s b (begin a ∷ ks))) × LoadsRight s b (started s) (begin a ∷ ks)
-  unfolding run replay feed LoadsRight LoadRight replayCall
-  from-begin s b a ks e =
-      let u = whole s (stepOf s b (begin a) .after) (started s) (begun s b a e) ks in
+  pub from-begin : (s : List ℕ) (b : Buffers) (x : Start) (ks : List Call) → accepted s b (begin x) ≡ true
+      → Good s (run s b (begin x ∷ ks)) (replay s (started s) (feed s b (begin x ∷ ks))) × LoadsRight s b (started s) (begin x ∷ ks)
+  unfolding run replay feed LoadsRight LoadRight effect replayEffect
+  from-begin s b x ks e =
+      let u = whole s (stepOf s b (begin x) .after) (started s) (begun s b x e) ks in
       rw e (u .0, (tt, u .1))

@@ -1,6 +1,5 @@
 pub mod Good
 pub mod Pages
-pub mod Passed
 pub mod Others
 pub mod Begun
 pub mod Called
@@ -11,7 +10,6 @@ pub mod LoadCalls
 pub mod Refused
 pub mod Induction
 pub mod Steps
-pub mod Picked
 pub mod Reading
 pub mod Listing
 pub mod Counted

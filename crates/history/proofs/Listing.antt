@@ -7,31 +7,34 @@ use Prim.Native.Nat.{ℕ, _*_, _/_, _%_, _≤_, _<_}
 use native.Mathlib.Omega.{arith}
 use lib.ListN.{length}
 use borrow.Author.Tests.{lt-ltb, le-leb, eqb-true}
+use Rattle.layout.specs.List.{listTotal}
+use Rattle.layout.specs.Page.{pageSize}
 use Rattle.words.proofs.Run.{bytesAt-ext}
+use Rattle.choice.proofs.Picked.{picked-ext}
+use Rattle.choice.proofs.Ascending.{Member, picked-passes}
+use Rattle.choice.proofs.Every.{every-all}
+use Rattle.choice.specs.Search.{every}
 use Rattle.choice.proofs.Tests.{by-test, differ}
 use Rattle.refusal.specs.declared.Check.the-variants.{Pass}
 use Rattle.refusal.proofs.Checks.{need-on, need-last}
 use Rattle.snapshot.specs.Accounts.{entryOf, dataLength}
-use Rattle.control.specs.Control.{pageSize, frames}
-use Rattle.frames.specs.Table.{frameEntryOf, claims, frameOf}
-use Rattle.frames.specs.declared.table.Frame.{Frame}
+use Rattle.control.specs.Control.{frames}
+use Rattle.control.specs.Buffers.{Buffers}
+use Rattle.pages.proofs.PageBytes.{live-positive}
+use Rattle.pages.specs.Pages.{live, pageThere}
+use Rattle.pages.specs.declared.Frame.{Frame}
+use Rattle.frames.specs.Table.{frameEntryOf, claims, frameOf, isFound, isCopy}
 use Rattle.frames.specs.declared.finding.Claim.the-variants.{Copy}
 use Rattle.frames.specs.declared.finding.Found.{Found}
 use Rattle.frames.specs.declared.finding.Found.the-variants.{At, Nothing}
 use Rattle.frames.proofs.Found.{First}
 use Rattle.frames.proofs.Claims.{copy-claims, frame-found, frame-none}
-use Rattle.access.specs.Pages.{live}
-use Rattle.access.proofs.PageBytes.{live-positive}
-use Rattle.changes.specs.Keys.{keyAccount, keyPage, keyClaim, keyLimit, isFound, isCopied, copyKeys}
-use Rattle.changes.specs.List.{listTotal, padded, listBytes, pageBytes, changeList, isCopy, every, claimedBefore, copyListable, listable, listCheck, changeListNumber, changeListOut}
-use Rattle.changes.proofs.Every.{every-all}
-use Rattle.changes.proofs.Ascending.{Member, picked-passes}
+use Rattle.changes.specs.Keys.{keyAccount, keyPage, keyClaim, keyLimit, isCopied, copyKeys}
+use Rattle.changes.specs.List.{padded, listBytes, pageBytes, changeList, claimedBefore, copyListable, listable, listCheck, changeListNumber, changeListOut}
 use Rattle.changes.proofs.Written.{joined-ext}
-use Rattle.history.specs.Calls.{Buffers}
 use Rattle.history.specs.Replay.{Replay, touchedKeys, plainPage, expectedList}
 use Rattle.history.specs.Claims.{ListRight}
 use Rattle.history.proofs.Good.{LivePage, Good}
-use Rattle.history.proofs.Picked.{picked-ext}
 
 -- ---- the frame of a key
 
@@ -89,7 +92,7 @@ module _ (s : List ℕ) (b : Buffers) (r : Replay) (g : Good s b r) where
 
   -- every copy can be listed
   copy-listable : (i : ℕ) → i < frames (b .control) → isCopy (b .control) i ≡ true → copyListable s (b .control) i ≡ true
-  unfolding copyListable
+  unfolding copyListable pageThere
   copy-listable i l h =
       let v : LivePage s (frameEntryOf (b .control) i .account .0) (frameEntryOf (b .control) i .page .0) =
       g .live _ _ i l (own-claim (b .control) i h) in

@@ -7,12 +7,15 @@ use mathlib.Core.List.{List}
 use native.Mathlib.Omega.{arith}
 use lib.ListN.{length, getD}
 use borrow.Author.Tests.{eqb-true, eq-eqb}
+use Rattle.layout.specs.Page.{pageSize}
 use Rattle.words.specs.Words.{wordAt, bytesAt}
 use Rattle.words.proofs.Word.{word-ext}
 use Rattle.words.proofs.Run.{bytesAt-ext}
 use Rattle.choice.proofs.Tests.{differ}
+use Rattle.refusal.proofs.Checks.{refusal-number}
 use Rattle.refusal.specs.Numbers.{done}
 use Rattle.address.specs.Address.{typeOf, indexOf, offsetOf}
+use Rattle.control.specs.Buffers.{Buffers}
 use Rattle.frames.specs.Table.{frameOf}
 use Rattle.frames.specs.declared.finding.Found.{Found}
 use Rattle.frames.specs.declared.finding.Found.the-variants.{At, Nothing}
@@ -24,38 +27,37 @@ use Rattle.translate.specs.declared.place.Place.{Place}
 use Rattle.translate.specs.declared.place.Translation.{Translation}
 use Rattle.translate.specs.declared.place.Translation.the-variants.{Allowed, Refused}
 use Rattle.translate.proofs.Accepted.{data-accepted}
-use Rattle.access.specs.Loads.{answered, loadOf, loadSpanNumber, loadSpanOut}
-use Rattle.access.proofs.Copies.{seen, load-value, load-span-bytes}
-use Rattle.history.specs.Calls.{Call, begin, translation, load, store, fetch, load-span, store-span, call, return, resize, change-list, page-view, Buffers, stepOf}
+use Rattle.access.specs.Loads.{loadOf, loadSpanOutcome, loadSpanOut}
+use Rattle.access.proofs.Seen.{seen, load-value, load-span-bytes}
+use Rattle.history.specs.Calls.{Call, begin, translation, load, store, fetch, load-span, store-span, call, return, resize, change-list, page-view, stepOf}
 use Rattle.history.specs.Replay.{Replay, inData}
 use Rattle.history.specs.Claims.{LoadRight}
 use Rattle.history.proofs.Good.{copyOf, Good}
-use Rattle.history.proofs.Passed.{refusal-number}
 use Rattle.history.proofs.Pages.{touched-found}
 
 -- ---- what is seen of a page is the plain copy
 
-module _ {s : List ℕ} {b : Buffers} {r : Replay} (g : Good s b r) (a n : ℕ) (within : offsetOf a % 4096 + n ≤ 4096) where
+module _ {s : List ℕ} {b : Buffers} {r : Replay} (g : Good s b r) (a n : ℕ) (within : offsetOf a % pageSize + n ≤ pageSize) where
   -- whatever n bytes determine reads the same from the frame, or else the original, and from the plain copy
   seen-plain : {X : Type 0} (read : List ℕ → ℕ → X)
       → ((x y : List ℕ) (i j : ℕ) → ((k : ℕ) → k < n → getD x (i + k) 0 ≡ getD y (j + k) 0) → read x i ≡ read y j)
-      → (f : Found) → frameOf (b .control) (copyOf (indexOf a) (offsetOf a / 4096)) ≡ f
+      → (f : Found) → frameOf (b .control) (copyOf (indexOf a) (offsetOf a / pageSize)) ≡ f
       → seen read s (b .pool) a f ≡ read (r .plain (indexOf a)) (offsetOf a)
   seen-plain read ext (At f) e =
       let i = frame-found (b .control) _ f e in
       ext _ _ _ _
       (λ k l.
-      let u : 4096 * f .0 + offsetOf a % 4096 + k ≡ 4096 * f .0 + (offsetOf a % 4096 + k) = omega arith in
-      let v : offsetOf a + k ≡ 4096 * (offsetOf a / 4096) + (offsetOf a % 4096 + k) = omega arith in
-      rw (u, v) (g .held (indexOf a) (offsetOf a / 4096) (f .0) (i .below) (i .passes) (offsetOf a % 4096 + k) (omega arith)))
+      let u : pageSize * f .0 + offsetOf a % pageSize + k ≡ pageSize * f .0 + (offsetOf a % pageSize + k) = omega arith in
+      let v : offsetOf a + k ≡ pageSize * (offsetOf a / pageSize) + (offsetOf a % pageSize + k) = omega arith in
+      rw (u, v) (g .held (indexOf a) (offsetOf a / pageSize) (f .0) (i .below) (i .passes) (offsetOf a % pageSize + k) (omega arith)))
   seen-plain read ext Nothing e =
       ext _ _ _ _
       (λ k l.
       let ha : indexOf a < 65536 = omega arith in
-      let hp : offsetOf a / 4096 < 65536 = omega arith in
-      let v : offsetOf a + k ≡ 4096 * (offsetOf a / 4096) + (offsetOf a % 4096 + k) = omega arith in
+      let hp : offsetOf a / pageSize < 65536 = omega arith in
+      let v : offsetOf a + k ≡ pageSize * (offsetOf a / pageSize) + (offsetOf a % pageSize + k) = omega arith in
       rw v
-      (sym (g .kept (indexOf a) (offsetOf a / 4096) ha hp (touched-found g _ _ ha hp ∙ rw e) (offsetOf a % 4096 + k) (omega arith))))
+      (sym (g .kept (indexOf a) (offsetOf a / pageSize) ha hp (touched-found g _ _ ha hp ∙ rw e) (offsetOf a % pageSize + k) (omega arith))))
 
 -- ---- loads
 
@@ -64,28 +66,23 @@ allowed : {A : Type 0} (t : Translation) → numberOfAnswer t ≡ done → ((q :
 allowed (Allowed q) e f = f q refl
 allowed (Refused x) e f = absurd (differ _ (eq-eqb _ _ e) (refusal-number x))
 
--- a load's number is that of translation's answer
-answered-number : (s c p : List ℕ) (n : ℕ) (t : Translation) → answered s c p n t .number ≡ numberOfAnswer t
-answered-number s c p n (Allowed q) = refl
-answered-number s c p n (Refused x) = refl
-
 module _ {s : List ℕ} {b : Buffers} {r : Replay} (g : Good s b r) where
   -- an accepted load in type 3 gives the number that the plain copy's bytes spell
-  load-right : (a n : ℕ) → loadOf s (b .control) (b .pool) a n .number ≡ done → inData a ≡ true
+  load-right : (a n : ℕ) → loadOf s (b .control) (b .pool) a n .outcome .number ≡ done → inData a ≡ true
       → loadOf s (b .control) (b .pool) a n .value ≡ wordAt n (r .plain (indexOf a)) (offsetOf a)
   unfolding loadOf
   load-right a n e h =
       let type : typeOf a ≡ 3 = eqb-true (typeOf a) 3 h in
       let t₀ : Translation = translateOf s (b .control) (b .pool) kindLoad a n in
-      allowed t₀ (sym (answered-number s (b .control) (b .pool) n t₀) ∙ e)
+      allowed t₀ e
       (λ q t.
       load-value s (b .control) (b .pool) a n type t
       ∙ seen-plain g a n (data-accepted s (b .control) (b .pool) kindLoad a n t refl type .0 .within) (wordAt n) (word-ext n) _ refl)
 
   -- an accepted span load in type 3 gives the plain copy's bytes
-  load-span-right : (a : ℕ) (out : List ℕ) → loadSpanNumber s (b .control) (b .pool) a out ≡ done → inData a ≡ true
+  load-span-right : (a : ℕ) (out : List ℕ) → loadSpanOutcome s (b .control) (b .pool) a out .number ≡ done → inData a ≡ true
       → loadSpanOut s (b .control) (b .pool) a out ≡ bytesAt (length out) (r .plain (indexOf a)) (offsetOf a)
-  unfolding loadSpanNumber
+  unfolding loadSpanOutcome
   load-span-right a out e h =
       let type : typeOf a ≡ 3 = eqb-true (typeOf a) 3 h in
       allowed (translateOf s (b .control) (b .pool) kindLoadSpan a (length out)) e
@@ -97,7 +94,7 @@ module _ {s : List ℕ} {b : Buffers} {r : Replay} (g : Good s b r) where
   -- every call gives what is claimed of it: of calls other than these two nothing is
   pub right-call : (k : Call) → LoadRight r k (stepOf s b k .answer)
   unfolding LoadRight stepOf
-  right-call (begin a) = tt
+  right-call (begin x) = tt
   right-call (translation kind a n) = tt
   right-call (load a n) = load-right a n
   right-call (store a n v) = tt

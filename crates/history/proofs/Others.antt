@@ -6,17 +6,19 @@ use mathlib.Core.Bool.{Bool, true, false}
 use mathlib.Core.List.{List}
 use native.Mathlib.Omega.{arith}
 use lib.ListN.{getD, length}
+use Rattle.layout.specs.Page.{poolLength, pageSize}
 use Rattle.snapshot.specs.Header.{snapshotValid}
-use Rattle.control.specs.Control.{poolLength, frames, invocations, invocationOf, controlValid, buffersValid}
+use Rattle.control.specs.Control.{frames, invocations, invocationOf, controlValid, buffersValid}
 use Rattle.control.proofs.Facts.{ControlFacts, buffers-facts, control-facts, buffers-valid, current-valid}
 use Rattle.control.proofs.Kept.{buffers-kept}
-use Rattle.frames.specs.Table.{frameEntryOf, claims}
+use Rattle.control.specs.Buffers.{Buffers}
+use Rattle.frames.specs.Table.{frameEntryOf, claims, isFound}
 use Rattle.frames.proofs.Entries.{EntryRange}
 use Rattle.frames.proofs.Claims.{frame-ext}
-use Rattle.changes.specs.Keys.{keyClaim, isFound, isCopied}
-use Rattle.regions.proofs.OnlyTable.{OnlyTable, table-frames, table-invocations, table-invocation}
-use Rattle.history.specs.Calls.{Call, Buffers, stepOf, accepted}
-use Rattle.history.specs.Replay.{Replay, replayCall, replayStep}
+use Rattle.frames.proofs.OnlyTable.{OnlyTable, table-frames, table-invocations, table-invocation}
+use Rattle.changes.specs.Keys.{keyClaim, isCopied}
+use Rattle.history.specs.Calls.{Call, stepOf, accepted, effect}
+use Rattle.history.specs.Replay.{Replay, replayEffect, replayStep}
 use Rattle.history.proofs.Good.{copyOf, LiveRecord, Good}
 
 -- the invariant holds after a call
@@ -56,8 +58,8 @@ copied-same c c′ count same k = ap isFound (frame-ext c (keyClaim k) c′ coun
 module _ {s : List ℕ} {b : Buffers} {r : Replay} (g : Good s b r) (b′ : Buffers)
     (ranged : (i : ℕ) → i < frames (b .control) → EntryRange (frameEntryOf (b′ .control) i))
     (same : (a p i : ℕ) → i < frames (b .control) → claims (b′ .control) (copyOf a p) i ≡ claims (b .control) (copyOf a p) i)
-    (bytes : (a p i : ℕ) → i < frames (b .control) → claims (b .control) (copyOf a p) i ≡ true → (k : ℕ) → k < 4096
-    → getD (b′ .pool) (4096 * i + k) 0 ≡ getD (b .pool) (4096 * i + k) 0) where
+    (bytes : (a p i : ℕ) → i < frames (b .control) → claims (b .control) (copyOf a p) i ≡ true → (k : ℕ) → k < pageSize
+    → getD (b′ .pool) (pageSize * i + k) 0 ≡ getD (b .pool) (pageSize * i + k) 0) where
   -- what a copy claims now, it claimed
   before : (a p i : ℕ) → i < frames (b .control) → claims (b′ .control) (copyOf a p) i ≡ true
       → claims (b .control) (copyOf a p) i ≡ true
@@ -93,7 +95,7 @@ module _ {s : List ℕ} {b : Buffers} {r : Replay} (g : Good s b r) (b′ : Buff
 
 -- ---- a call that the replay passes over
 
-module _ {s : List ℕ} {b : Buffers} {r : Replay} (k : Call) (e : replayCall s r k ≡ r) where
+module _ {s : List ℕ} {b : Buffers} {r : Replay} (k : Call) (e : replayEffect s r (effect k) ≡ r) where
   -- it does so whether the call was accepted or not
   pub replay-stays : (o : Bool) → Good s b r → Good s b (replayStep s r (record { asked = k; ok = o }))
   replay-stays true g = rw e g

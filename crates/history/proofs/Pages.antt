@@ -5,18 +5,19 @@ use mathlib.Core.Bool.{true}
 use mathlib.Core.List.{List}
 use native.Mathlib.Omega.{arith}
 use lib.ListN.{length}
+use Rattle.layout.specs.Page.{pageSize}
 use Rattle.choice.specs.Search.{lowest}
 use Rattle.choice.proofs.Lowest.{lowest-some}
 use Rattle.control.specs.Control.{frames}
 use Rattle.control.proofs.Facts.{buffers-facts}
-use Rattle.frames.specs.Table.{frameEntryOf, claims, frameOf}
+use Rattle.control.specs.Buffers.{Buffers}
+use Rattle.frames.specs.Table.{frameEntryOf, claims, frameOf, isFound}
 use Rattle.frames.specs.declared.finding.Claim.{Claim}
 use Rattle.frames.specs.declared.finding.Found.the-variants.{At}
 use Rattle.frames.proofs.Entries.{EntryRange}
 use Rattle.frames.proofs.Found.{lowest-first}
 use Rattle.frames.proofs.Claims.{IsCopy, claims-copy, found-frame}
-use Rattle.changes.specs.Keys.{keyOf, keyAccount, keyPage, keyClaim, keyLimit, isFound, isCopied}
-use Rattle.history.specs.Calls.{Buffers}
+use Rattle.changes.specs.Keys.{keyOf, keyAccount, keyPage, keyClaim, keyLimit, isCopied}
 use Rattle.history.specs.Replay.{Replay}
 use Rattle.history.proofs.Good.{copyOf, Good}
 
@@ -57,7 +58,7 @@ claim-found c q i l h =
 
 module _ {s : List ℕ} {b : Buffers} {r : Replay} (g : Good s b r) where
   -- the pool has 4,096 bytes for each frame
-  pub pool-length : length (b .pool) ≡ 4096 * frames (b .control)
+  pub pool-length : length (b .pool) ≡ pageSize * frames (b .control)
   pool-length = buffers-facts s (b .control) (b .pool) (g .buffers) .pool
 
   module _ (a p : ℕ) where

@@ -6,17 +6,20 @@ use native.Mathlib.Nat.{zero-add, mul-suc, mul-zero}
 use native.Mathlib.Omega.{arith}
 use lib.ListN.{length, getD, length-append, List·getD-append}
 use lib.Seq.{getD-append-add}
+use Rattle.layout.specs.List.{listHeader, changeSize, changeAt, pagesAt, listTotal}
+use Rattle.layout.specs.Page.{pageSize}
+use Rattle.layout.specs.Control.{frameLimit}
 use Rattle.words.specs.Words.{wordAt, wordBytes, splice}
 use Rattle.words.proofs.Splice.{splice-in}
 use Rattle.words.proofs.Word.{word-ext, word-left, word-right, word-bytes, length-wordBytes}
-use Rattle.access.specs.Pages.{live}
-use Rattle.access.proofs.PageBytes.{live-most}
 use Rattle.snapshot.specs.Accounts.{entryOf, dataLength}
-use Rattle.control.specs.Control.{frameLimit, pageSize}
+use Rattle.pages.proofs.PageBytes.{live-most}
+use Rattle.pages.specs.Pages.{live}
 use Rattle.changes.specs.Keys.{keyAccount, keyPage, keyLimit}
-use Rattle.changes.specs.List.{listHeader, pagesAt, listTotal, listHeaderBytes, changeBytes, joined, listBytes}
-use Rattle.apply.specs.Apply.{listCount, changeAccount, changePage, changeLive}
+use Rattle.changes.specs.Entry.{changeBytes, changeOf}
+use Rattle.changes.specs.List.{listHeaderBytes, joined, listBytes}
 use Rattle.changes.proofs.Written.{length-joined, length-header, length-change}
+use Rattle.apply.specs.Apply.{listCount, changeAccount, changePage, changeLive}
 
 -- ---- header and entry
 
@@ -53,19 +56,23 @@ module _ (n : ℕ) (few : n ≤ frameLimit) where
       ∙ word-next 4 4 (wordBytes 4 (pagesAt n)) _ 0 (length-wordBytes 4 (pagesAt n))
       ∙ word-bytes 4 (listTotal n) (omega arith)
 
+-- the entry of a key, in bytes
+abbrev row : List ℕ → ℕ → List ℕ
+row s k = changeBytes (changeOf s k)
+
 module _ (s : List ℕ) (k : ℕ) where
   -- an entry's three numbers
-  change-account : k < keyLimit → wordAt 2 (changeBytes s k) 0 ≡ k / 65536
+  change-account : k < keyLimit → wordAt 2 (row s k) 0 ≡ k / 65536
   unfolding changeBytes
   change-account h = word-front 2 (k / 65536) _ ∙ word-bytes 2 (k / 65536) (omega arith)
 
-  change-page : wordAt 2 (changeBytes s k) 2 ≡ k % 65536
+  change-page : wordAt 2 (row s k) 2 ≡ k % 65536
   unfolding changeBytes
   change-page =
       word-next 2 2 (wordBytes 2 (k / 65536)) _ 0 (length-wordBytes 2 (k / 65536)) ∙ word-front 2 (k % 65536) _
       ∙ word-bytes 2 (k % 65536) (omega arith)
 
-  change-live : wordAt 4 (changeBytes s k) 4 ≡ live s (keyAccount k) (keyPage k)
+  change-live : wordAt 4 (row s k) 4 ≡ live s (keyAccount k) (keyPage k)
   unfolding changeBytes
   change-live =
       word-next 4 2 (wordBytes 2 (k / 65536)) _ 2 (length-wordBytes 2 (k / 65536))
@@ -97,33 +104,33 @@ pub record ReadBack (l s : List ℕ) (page : ℕ → List ℕ) (ks : List ℕ) :
   pub account : (i : ℕ) → i < length ks → getD ks i 0 < keyLimit → changeAccount l i ≡ getD ks i 0 / 65536
   pub page-number : (i : ℕ) → i < length ks → changePage l i ≡ getD ks i 0 % 65536
   pub live-count : (i : ℕ) → i < length ks → changeLive l i ≡ live s (keyAccount (getD ks i 0)) (keyPage (getD ks i 0))
-  pub page-byte : (i : ℕ) → i < length ks → (k : ℕ) → k < 4096
+  pub page-byte : (i : ℕ) → i < length ks → (k : ℕ) → k < pageSize
       → getD l (pagesAt (length ks) + pageSize * i + k) 0 ≡ getD (page (getD ks i 0)) k 0
 
 -- the buffer with the list
 abbrev pub listIn : List ℕ → List ℕ → (ℕ → List ℕ) → List ℕ → List ℕ
-listIn out s page ks = splice out 0 (listBytes s page ks)
+listIn out s page ks = splice out 0 (listBytes (changeOf s) page ks)
 
-module _ (s : List ℕ) (page : ℕ → List ℕ) (ks out : List ℕ) (each : (k : ℕ) → length (page k) ≡ 4096) (few : length ks ≤ frameLimit)
+module _ (s : List ℕ) (page : ℕ → List ℕ) (ks out : List ℕ) (each : (k : ℕ) → length (page k) ≡ pageSize) (few : length ks ≤ frameLimit)
     (room : listTotal (length ks) ≤ length out) where
   -- the list is as long as its total
-  length-list : length (listBytes s page ks) ≡ listTotal (length ks)
+  length-list : length (listBytes (changeOf s) page ks) ≡ listTotal (length ks)
   unfolding listBytes
   length-list =
       simp length-append
       (omega (
         arith,
         length-header (length ks),
-        length-joined (changeBytes s) 8 (length-change s) ks,
-        length-joined page 4096 each ks,
+        length-joined (row s) changeSize (λ k. length-change (changeOf s k)) ks,
+        length-joined page pageSize each ks,
       ))
 
   -- each of its bytes is in the buffer
-  written-byte : (j : ℕ) → j < listTotal (length ks) → getD (listIn out s page ks) j 0 ≡ getD (listBytes s page ks) j 0
-  written-byte j h = rw zero-add at (splice-in out 0 (listBytes s page ks) j (omega (arith, length-list)) (omega (arith, length-list)))
+  written-byte : (j : ℕ) → j < listTotal (length ks) → getD (listIn out s page ks) j 0 ≡ getD (listBytes (changeOf s) page ks) j 0
+  written-byte j h = rw zero-add at (splice-in out 0 (listBytes (changeOf s) page ks) j (omega (arith, length-list)) (omega (arith, length-list)))
 
   -- a number of the header
-  read-header : (j : ℕ) → j + 4 ≤ 16 → wordAt 4 (listIn out s page ks) j ≡ wordAt 4 (listHeaderBytes (length ks)) j
+  read-header : (j : ℕ) → j + 4 ≤ listHeader → wordAt 4 (listIn out s page ks) j ≡ wordAt 4 (listHeaderBytes (length ks)) j
   read-header j h =
       word-ext 4 (listIn out s page ks) (listHeaderBytes (length ks)) j j
       (λ k l.
@@ -148,21 +155,21 @@ module _ (s : List ℕ) (page : ℕ → List ℕ) (ks out : List ℕ) (each : (k
 
   module _ (i : ℕ) (h : i < length ks) where
     -- a number of entry i
-    read-change : (w o : ℕ) → o + w ≤ 8 → wordAt w (listIn out s page ks) (16 + 8 * i + o) ≡ wordAt w (changeBytes s (getD ks i 0)) o
+    read-change : (w o : ℕ) → o + w ≤ changeSize → wordAt w (listIn out s page ks) (changeAt i + o) ≡ wordAt w (row s (getD ks i 0)) o
     read-change w o l =
-        word-ext w (listIn out s page ks) (changeBytes s (getD ks i 0)) (16 + 8 * i + o) o
+        word-ext w (listIn out s page ks) (row s (getD ks i 0)) (changeAt i + o) o
         (λ k m.
-        let e : 16 + 8 * i + o + k ≡ 16 + (8 * i + (o + k)) = omega arith in
+        let e : changeAt i + o + k ≡ listHeader + (changeSize * i + (o + k)) = omega arith in
         rw e
-        (written-byte (16 + (8 * i + (o + k))) (omega arith)
-        ∙ unfold listBytes in second (listHeaderBytes (length ks)) _ 16 (8 * i + (o + k)) (length-header (length ks))
-        ∙ List·getD-append (joined (changeBytes s) ks) _ 0 (8 * i + (o + k)) (omega (arith, length-joined (changeBytes s) 8 (length-change s) ks))
-        ∙ getD-joined (changeBytes s) 8 (length-change s) ks i (o + k) h (omega arith)))
+        (written-byte (listHeader + (changeSize * i + (o + k))) (omega arith)
+        ∙ unfold listBytes in second (listHeaderBytes (length ks)) _ listHeader (changeSize * i + (o + k)) (length-header (length ks))
+        ∙ List·getD-append (joined (row s) ks) _ 0 (changeSize * i + (o + k)) (omega (arith, length-joined (row s) changeSize (λ k. length-change (changeOf s k)) ks))
+        ∙ getD-joined (row s) changeSize (λ k. length-change (changeOf s k)) ks i (o + k) h (omega arith)))
 
     -- its account
     read-account : getD ks i 0 < keyLimit → changeAccount (listIn out s page ks) i ≡ getD ks i 0 / 65536
     read-account l =
-        let z : 16 + 8 * i + 0 ≡ 16 + 8 * i = omega arith in
+        let z : changeAt i + 0 ≡ changeAt i = omega arith in
         rw z at (read-change 2 0 (omega arith)) ∙ change-account s (getD ks i 0) l
 
     -- its page
@@ -174,14 +181,14 @@ module _ (s : List ℕ) (page : ℕ → List ℕ) (ks out : List ℕ) (each : (k
     read-live = read-change 4 4 (omega arith) ∙ change-live s (getD ks i 0)
 
     -- a byte of its page
-    read-byte : (k : ℕ) → k < 4096 → getD (listIn out s page ks) (pagesAt (length ks) + pageSize * i + k) 0 ≡ getD (page (getD ks i 0)) k 0
+    read-byte : (k : ℕ) → k < pageSize → getD (listIn out s page ks) (pagesAt (length ks) + pageSize * i + k) 0 ≡ getD (page (getD ks i 0)) k 0
     read-byte k l =
-        let e : pagesAt (length ks) + pageSize * i + k ≡ 16 + (8 * length ks + (4096 * i + k)) = omega arith in
+        let e : pagesAt (length ks) + pageSize * i + k ≡ listHeader + (changeSize * length ks + (pageSize * i + k)) = omega arith in
         rw e
-        (written-byte (16 + (8 * length ks + (4096 * i + k))) (omega arith)
-        ∙ unfold listBytes in second (listHeaderBytes (length ks)) _ 16 (8 * length ks + (4096 * i + k)) (length-header (length ks))
-        ∙ second (joined (changeBytes s) ks) _ (8 * length ks) (4096 * i + k) (length-joined (changeBytes s) 8 (length-change s) ks)
-        ∙ getD-joined page 4096 each ks i k h l)
+        (written-byte (listHeader + (changeSize * length ks + (pageSize * i + k))) (omega arith)
+        ∙ unfold listBytes in second (listHeaderBytes (length ks)) _ listHeader (changeSize * length ks + (pageSize * i + k)) (length-header (length ks))
+        ∙ second (joined (row s) ks) _ (changeSize * length ks) (pageSize * i + k) (length-joined (row s) changeSize (λ k. length-change (changeOf s k)) ks)
+        ∙ getD-joined page pageSize each ks i k h l)
 
   -- what is read of the list
   pub read-back : ReadBack (listIn out s page ks) s page ks

@@ -13,28 +13,30 @@ use Rattle.refusal.specs.Numbers.{done}
 use Rattle.refusal.specs.Checks.{checkNumber, orKeep}
 use Rattle.refusal.specs.declared.Check.{Check}
 use Rattle.refusal.specs.declared.Check.the-variants.{Pass, Stop}
+use Rattle.control.specs.Control.{sizeOf}
 use Rattle.control.specs.declared.shadow.Region.{Region}
+use Rattle.control.specs.Buffers.{Buffers}
 use Rattle.segments.specs.Kinds.{kindLoad, kindStore, kindFetch, kindLoadSpan, kindStoreSpan}
 use Rattle.translate.specs.Place.{numberOfAnswer}
 use Rattle.translate.specs.Translate.{translateOf}
 use Rattle.translate.specs.declared.place.Translation.{Translation}
 use Rattle.translate.specs.declared.place.Translation.the-variants.{Allowed, Refused}
-use Rattle.access.specs.Loads.{answered, loadOf, fetchOf, filled, loadSpanNumber, loadSpanOut}
-use Rattle.access.specs.Stores.{controlAfter, poolAfter, storeNumber, storeControl, storePool}
+use Rattle.access.specs.Loads.{answered, loadOf, fetchOf, filled, loadSpanOutcome, loadSpanOut}
+use Rattle.access.specs.Stores.{controlAfter, poolAfter, storeOutcome, storeControl, storePool}
 use Rattle.invoke.specs.Invoke.{beginCheck, beginNumber, beginControl, callCheck, callNumber, callControl, returnCheck, returnNumber, returnControl, returnOut}
-use Rattle.regions.specs.Resize.{Resized, sizeOf, growCheck, growTo, shrinkCheck, shrinkControl, resizeTo, resizeCheck, regionOf, orRefused, resizeOf}
+use Rattle.regions.specs.Resize.{Resized, growCheck, growTo, shrinkCheck, shrinkControl, resizeTo, resizeCheck, regionOf, orRefused, resizeOf}
 use Rattle.changes.specs.List.{listCheck, changeListNumber, changeListOut}
 use Rattle.view.specs.View.{viewOf, viewNumber, viewBytes}
 use Rattle.view.specs.declared.View.{View}
 use Rattle.view.specs.declared.View.the-variants as view
-use Rattle.history.specs.Calls.{Call, begin, translation, load, store, fetch, load-span, store-span, call, return, resize, change-list, page-view, Buffers, Step, stepOf, accepted}
+use Rattle.history.specs.Calls.{Call, begin, translation, load, store, fetch, load-span, store-span, call, return, resize, change-list, page-view, Step, stepOf, accepted}
 use Rattle.history.specs.Replay.{Replay}
 use Rattle.history.proofs.Good.{Good}
 use Rattle.history.proofs.Others.{GoodAfter}
 
 -- what is left of the lent buffer of a call that is refused: its bytes as they were given; there is none, or an empty view, otherwise
 unfoldable pub given : Call → List ℕ
-given (begin a) = []
+given (begin x) = []
 given (translation kind a n) = []
 given (load a n) = []
 given (store a n v) = []
@@ -62,7 +64,7 @@ stop-keeps (Stop r) old new e = refl
 
 module _ (s c p : List ℕ) where
   -- a refused translation gives a load no value
-  no-value : (n : ℕ) (t : Translation) → eqb (answered s c p n t .number) done ≡ false → answered s c p n t .value ≡ 0
+  no-value : (n : ℕ) (t : Translation) → eqb (answered s c p n t .outcome .number) done ≡ false → answered s c p n t .value ≡ 0
   no-value n (Allowed q) e = absurd (differ _ refl e)
   no-value n (Refused r) e = refl
 
@@ -89,8 +91,8 @@ module _ (s c p : List ℕ) where
 
 -- both buffers as they were
 record Left (c p : List ℕ) (o : Resized) : Type 0 where
-  control : o .control ≡ c
-  pool : o .pool ≡ p
+  control : o .after .control ≡ c
+  pool : o .after .pool ≡ p
 
 module _ (c p : List ℕ) where
   -- a resize refused by its size
@@ -126,18 +128,18 @@ module _ (s : List ℕ) (b : Buffers) where
   same-buffers e f = rw (e, f)
 
   -- a refused store of either kind
-  store-left : (kind a : ℕ) (bytes : List ℕ) → eqb (storeNumber s c p kind a (length bytes)) done ≡ false
+  store-left : (kind a : ℕ) (bytes : List ℕ) → eqb (storeOutcome s c p kind a (length bytes) .number) done ≡ false
       → record { control = storeControl s c p kind a (length bytes); pool = storePool s c p kind a bytes } ≡ b
-  unfolding storeNumber storeControl storePool
+  unfolding storeOutcome storeControl storePool
   store-left kind a bytes e =
       let t : Translation = translateOf s c p kind a (length bytes) in
       same-buffers (control-left s c p t e) (pool-left s c p bytes t e)
 
   -- "Every number but 0 changes nothing": a refused call of any kind
   pub refused-keeps : (k : Call) → accepted s b k ≡ false → Unchanged b k (stepOf s b k)
-  unfolding stepOf given beginNumber beginControl loadOf fetchOf loadSpanNumber loadSpanOut callNumber callControl returnNumber returnControl returnOut resizeOf changeListNumber changeListOut
-  refused-keeps (begin a) e =
-      record { after = same-buffers (stop-keeps (beginCheck s (length c) (length p) a) c _ e) refl; value = refl; bytes = refl }
+  unfolding stepOf given beginNumber beginControl loadOf fetchOf loadSpanOutcome loadSpanOut callNumber callControl returnNumber returnControl returnOut resizeOf changeListNumber changeListOut
+  refused-keeps (begin x) e =
+      record { after = same-buffers (stop-keeps (beginCheck s (length c) (length p) x) c _ e) refl; value = refl; bytes = refl }
   refused-keeps (translation kind a n) e = record { after = refl; value = refl; bytes = refl }
   refused-keeps (load a n) e = record { after = refl; value = no-value s c p n (translateOf s c p kindLoad a n) e; bytes = refl }
   refused-keeps (store a n v) e =

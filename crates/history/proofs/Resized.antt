@@ -10,33 +10,34 @@ use native.Mathlib.Omega.{arith}
 use lib.ListN.{getD, length}
 use lib.Dec.{ltb}
 use borrow.Author.Tests.{ltb-true, leb-true}
+use Rattle.layout.specs.Page.{pageSize, pageLimit}
+use Rattle.layout.specs.Control.{tableAt, heapAt, liveLimit}
 use Rattle.words.specs.Words.{wordBytes, bytesAt}
 use Rattle.words.proofs.Word.{length-wordBytes}
 use Rattle.words.proofs.Run.{getD-bytesAt}
-use Rattle.choice.proofs.Tests.{by-test, differ}
-use Rattle.refusal.proofs.Checks.{need-then, need-pass}
-use Rattle.control.specs.Control.{tableAt, pageSize, pageLimit, frames, invocations, invocationOf, recordAt, regionAt, setPages, pagesOf}
+use Rattle.choice.proofs.Tests.{by-test, differ, fails}
+use Rattle.refusal.proofs.Checks.{need-then, need-pass, by-check}
+use Rattle.control.specs.Control.{frames, invocations, invocationOf, recordAt, regionAt, setPages, pagesOf, sizeOf}
 use Rattle.control.specs.declared.shadow.Region.{Region}
 use Rattle.control.specs.declared.shadow.Region.the-variants.{Stack, Heap}
 use Rattle.control.proofs.Facts.{BuffersFacts, ControlFacts, buffers-facts, control-facts}
 use Rattle.control.proofs.Records.{header-kept, record-valid, invocation-other, pages-only, pages-program, pages-other, pages-same}
+use Rattle.control.specs.Buffers.{Buffers}
 use Rattle.frames.specs.Table.{frameEntryOf, claims, isFree, freeCount}
 use Rattle.frames.proofs.Entries.{EntryRange, zero-range}
 use Rattle.frames.proofs.Untouched.{entry-above, claims-above}
 use Rattle.frames.proofs.Claims.{free-claims}
-use Rattle.frames.proofs.Loops.{fails}
-use Rattle.regions.specs.Resize.{sizeOf, pageAt, grown, growCheck, growTo, shrunk, shrinkCheck, shrinkControl, resizeTo, resizeCheck, regionOf, resizeOf}
+use Rattle.regions.specs.Resize.{pageAt, grown, growCheck, growTo, shrunk, shrinkCheck, shrinkControl, resizeTo, resizeCheck, regionOf, resizeOf}
 use Rattle.regions.proofs.Pages.{page-below, page-range}
 use Rattle.regions.proofs.Grown.{grown-only, grown-pool, grown-kept, grown-either, grown-copies}
 use Rattle.regions.proofs.Shrunk.{shrunk-only, shrunk-copies, shrunk-kept, shrunk-freed, among-or}
-use Rattle.history.specs.Calls.{Buffers, resize, stepOf, accepted}
-use Rattle.history.specs.Replay.{Replay, replayCall}
+use Rattle.history.specs.Calls.{resize, stepOf, accepted, effect}
+use Rattle.history.specs.Replay.{Replay, replayEffect}
 use Rattle.history.proofs.Good.{copyOf, LiveRecord, Good}
-use Rattle.history.proofs.Passed.{by-check}
 use Rattle.history.proofs.Others.{GoodAfter, keep-other, keep-table, record-same, records-valid, replay-stays}
 
 -- a size stands at 2 or 4 of its record
-region-at : (q : Region) → regionAt q ≤ 4
+region-at : (q : Region) → regionAt q ≤ heapAt
 region-at Stack = omega arith
 region-at Heap = omega arith
 
@@ -48,7 +49,7 @@ heap-stack e = let z : _≡_ {A = ℕ} 0 1 = cc in omega arith
 stack-heap : Stack ≢ Heap
 stack-heap e = let z : _≡_ {A = ℕ} 0 1 = cc in omega arith
 
-module _ (c : List ℕ) (k n : ℕ) (l : k ≤ 16) (long : tableAt ≤ length c) (few : n ≤ pageLimit) where
+module _ (c : List ℕ) (k n : ℕ) (l : k ≤ liveLimit) (long : tableAt ≤ length c) (few : n ≤ pageLimit) where
   -- each size of a record stays within the limit
   pages-few : (q t : Region) → pagesOf (invocationOf c k) t ≤ pageLimit → pagesOf (invocationOf (setPages c k q n) k) t ≤ pageLimit
   pages-few Stack Stack h = omega (arith, pages-same c k Stack n l long (omega arith))
@@ -67,9 +68,9 @@ module _ (c : List ℕ) (k n : ℕ) (l : k ≤ 16) (long : tableAt ≤ length c)
 
 -- the bytes of frames that agree
 frame-byte : (p p′ : List ℕ) (i : ℕ) → bytesAt pageSize p′ (pageSize * i) ≡ bytesAt pageSize p (pageSize * i)
-    → (k : ℕ) → k < 4096 → getD p′ (4096 * i + k) 0 ≡ getD p (4096 * i + k) 0
+    → (k : ℕ) → k < pageSize → getD p′ (pageSize * i + k) 0 ≡ getD p (pageSize * i + k) 0
 frame-byte p p′ i e k l =
-    sym (getD-bytesAt 4096 p′ (4096 * i) k l) ∙ ap (λ (x : List ℕ). getD x k 0) e ∙ getD-bytesAt 4096 p (4096 * i) k l
+    sym (getD-bytesAt pageSize p′ (pageSize * i) k l) ∙ ap (λ (x : List ℕ). getD x k 0) e ∙ getD-bytesAt pageSize p (pageSize * i) k l
 
 module _ {s : List ℕ} {r : Replay} {b : Buffers} (g : Good s b r) where
   -- the control block
@@ -168,7 +169,7 @@ module _ {s : List ℕ} {r : Replay} {b : Buffers} (g : Good s b r) where
 module _ {s : List ℕ} {r : Replay} {b : Buffers} (g : Good s b r) where
   -- the invariant holds after a region is resized to n pages
   resized-good : (q : Region) (n : ℕ) → n ≤ pageLimit
-      → Good s (record { control = resizeTo (b .control) (b .pool) q n .control; pool = resizeTo (b .control) (b .pool) q n .pool }) r
+      → Good s (resizeTo (b .control) (b .pool) q n .after) r
   unfolding resizeTo growTo shrinkControl growCheck
   resized-good q n few =
       by-test (ltb (sizeOf (b .control) q) n)
@@ -189,7 +190,7 @@ module _ {s : List ℕ} {r : Replay} {b : Buffers} (g : Good s b r) where
 
   -- a resize keeps the invariant
   pub keep-resize : (region n : ℕ) → GoodAfter s b r (resize region n)
-  unfolding stepOf resizeOf resizeCheck replayCall
+  unfolding stepOf resizeOf resizeCheck effect replayEffect
   keep-resize region n =
       replay-stays (resize region n) refl (accepted s b (resize region n))
       (by-check (resizeCheck s (b .control) (b .pool) region n)

@@ -2,8 +2,9 @@
 use Prim.Native.Nat.{ℕ}
 use mathlib.Core.Path.{refl}
 use mathlib.Core.List.{List}
-use Rattle.history.specs.Calls.{Call, begin, translation, load, store, fetch, load-span, store-span, call, return, resize, change-list, page-view, Buffers, stepOf}
-use Rattle.history.specs.Replay.{Replay, replayCall}
+use Rattle.control.specs.Buffers.{Buffers}
+use Rattle.history.specs.Calls.{Call, begin, translation, load, store, fetch, load-span, store-span, call, return, resize, change-list, page-view, stepOf, effect}
+use Rattle.history.specs.Replay.{Replay, replayEffect}
 use Rattle.history.proofs.Good.{Good}
 use Rattle.history.proofs.Others.{GoodAfter, keep-read}
 use Rattle.history.proofs.Begun.{keep-begin}
@@ -13,8 +14,8 @@ use Rattle.history.proofs.StoreCalls.{keep-store-call, keep-store-span-
 
 -- a call that only reads leaves both the buffers and the replay
 pub keep-step : (s : List ℕ) (b : Buffers) (r : Replay) → Good s b r → (k : Call) → GoodAfter s b r k
-unfolding stepOf replayCall
-keep-step s b r g (begin a) = keep-begin g a
+unfolding stepOf effect replayEffect
+keep-step s b r g (begin x) = keep-begin g x
 keep-step s b r g (translation kind a n) = keep-read (translation kind a n) refl refl g
 keep-step s b r g (load a n) = keep-read (load a n) refl refl g
 keep-step s b r g (store a n v) = keep-store-call g a n v

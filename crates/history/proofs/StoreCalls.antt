@@ -10,19 +10,20 @@ use Rattle.words.specs.Words.{wordBytes}
 use Rattle.words.proofs.Word.{length-wordBytes}
 use Rattle.choice.specs.Choice.{pick}
 use Rattle.choice.proofs.Tests.{by-test}
+use Rattle.refusal.proofs.Checks.{refusal-number}
 use Rattle.refusal.specs.Numbers.{done}
 use Rattle.address.specs.Address.{typeOf}
+use Rattle.control.specs.Buffers.{Buffers}
 use Rattle.segments.specs.Kinds.{kindStore, kindStoreSpan, isStore}
 use Rattle.translate.specs.Place.{numberOfAnswer}
 use Rattle.translate.specs.Translate.{translateOf}
 use Rattle.translate.specs.declared.place.Translation.{Translation}
 use Rattle.translate.specs.declared.place.Translation.the-variants.{Allowed, Refused}
-use Rattle.access.specs.Stores.{controlAfter, poolAfter, storeNumber, storeControl, storePool}
-use Rattle.history.specs.Calls.{store, store-span, Buffers, stepOf}
-use Rattle.history.specs.Replay.{Replay, inData, stored, replayCall}
+use Rattle.access.specs.Stores.{controlAfter, poolAfter, storeOutcome, storeControl, storePool}
+use Rattle.history.specs.Calls.{store, store-span, stepOf, effect}
+use Rattle.history.specs.Replay.{Replay, inData, stored, replayEffect}
 use Rattle.history.proofs.Good.{Good}
 use Rattle.history.proofs.Others.{GoodAfter}
-use Rattle.history.proofs.Passed.{refusal-number}
 use Rattle.history.proofs.Stored.{keep-store, keep-region-store}
 
 module _ {s : List ℕ} {b : Buffers} {r : Replay} (g : Good s b r) where
@@ -38,11 +39,11 @@ module _ {s : List ℕ} {b : Buffers} {r : Replay} (g : Good s b r) where
 
   -- a store
   pub keep-store-call : (a n v : ℕ) → GoodAfter s b r (store a n v)
-  unfolding stepOf replayCall storeNumber storeControl storePool
+  unfolding stepOf effect replayEffect storeOutcome storeControl storePool
   keep-store-call a n v =
       rw (length-wordBytes n v) (keep-answer kindStore a n (wordBytes n v) (length-wordBytes n v) refl _ refl)
 
   -- a span store
   pub keep-store-span-call : (a : ℕ) (bytes : List ℕ) → GoodAfter s b r (store-span a bytes)
-  unfolding stepOf replayCall storeNumber storeControl storePool
+  unfolding stepOf effect replayEffect storeOutcome storeControl storePool
   keep-store-span-call a bytes = keep-answer kindStoreSpan a (length bytes) bytes refl refl _ refl

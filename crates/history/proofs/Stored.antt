@@ -11,6 +11,8 @@ use native.Mathlib.Omega.{arith}
 use lib.ListN.{length, getD}
 use lib.Dec.{eqb}
 use borrow.Author.Tests.{eq-eqb, eqb-true, eqb-false}
+use Rattle.layout.specs.Page.{pageSize}
+use Rattle.layout.specs.Control.{liveLimit, usageCopy}
 use Rattle.words.specs.Words.{splice}
 use Rattle.words.proofs.Splice.{length-splice}
 use Rattle.choice.specs.Choice.{pick, either}
@@ -18,12 +20,15 @@ use Rattle.choice.proofs.Tests.{by-test, differ}
 use Rattle.address.specs.Address.{typeOf, indexOf, offsetOf}
 use Rattle.snapshot.specs.Accounts.{entryOf, dataLength, original}
 use Rattle.snapshot.proofs.Facts.{snapshot-facts, data-short, length-original}
-use Rattle.control.specs.Control.{liveLimit, frames, invocations, controlReady, buffersValid}
+use Rattle.control.specs.Control.{frames, invocations, controlReady, buffersValid}
 use Rattle.control.specs.declared.shadow.Region.{Region}
 use Rattle.control.specs.declared.shadow.Region.the-variants.{Stack, Heap}
 use Rattle.control.proofs.Facts.{BuffersFacts, control-facts, buffers-facts}
-use Rattle.frames.specs.Table.{entryEnd, frameEntryOf, putFrameEntry, usageCopy, usageOf, holds, claims, isFree, frameOf}
-use Rattle.frames.specs.declared.table.FrameEntry.{FrameEntry}
+use Rattle.control.specs.Buffers.{Buffers}
+use Rattle.pages.proofs.PageBytes.{elsewhere, alike, length-original-page}
+use Rattle.pages.specs.Pages.{originalPage}
+use Rattle.frames.specs.declared.finding.Claim.the-variants.{Copy}
+use Rattle.frames.specs.Table.{entryEnd, frameEntryOf, usageOf, holds, claims, isFree, frameOf}
 use Rattle.frames.specs.declared.finding.Claim.{Claim}
 use Rattle.frames.specs.declared.finding.Found.the-variants.{Nothing}
 use Rattle.frames.proofs.Entries.{EntryRange, entry-same, entry-other}
@@ -31,17 +36,15 @@ use Rattle.frames.proofs.Untouched.{frames-kept, invocations-kept, invocation-k
 use Rattle.frames.proofs.Claims.{holds-copy, copy-holds, claims-copy, claims-page, claims-one, claims-same, claims-other, free-claims, frame-found, frame-none, frame-taken, frame-kept}
 use Rattle.frames.proofs.Free.{free-found}
 use Rattle.segments.specs.Kinds.{isStore}
+use Rattle.translate.specs.declared.place.NewCopy.{NewCopy}
 use Rattle.translate.specs.Translate.{translateOf}
 use Rattle.translate.specs.declared.place.Place.{Place}
 use Rattle.translate.specs.declared.place.Translation.the-variants.{Allowed}
-use Rattle.translate.proofs.Accepted.{DataAccess, data-accepted, region-accepted}
+use Rattle.translate.proofs.Accepted.{DataAccess, accepted, data-accepted}
 use Rattle.translate.proofs.Stores.{StorePlace, into-copy, into-new, into-region, store-place}
-use Rattle.access.specs.Pages.{copyEntry, originalPage}
-use Rattle.access.specs.Stores.{placeInPool, preparedControl, preparedPool}
-use Rattle.access.proofs.PageBytes.{elsewhere, alike, length-original-page}
-use Rattle.access.proofs.Copies.{copied-byte}
+use Rattle.access.specs.Stores.{placeInPool, preparedControl, preparedPool, copyEntry, takenControl, takenPool}
+use Rattle.access.proofs.Seen.{copied-byte}
 use Rattle.changes.specs.Keys.{keyOf, keyLimit, keyClaim, isCopied}
-use Rattle.history.specs.Calls.{Buffers}
 use Rattle.history.specs.Replay.{Replay, stored}
 use Rattle.history.proofs.Good.{copyOf, LiveRecord, LivePage, Good}
 use Rattle.history.proofs.Pages.{key-claim, pool-length, touched-found, claim-touched}
@@ -64,48 +67,48 @@ buffers-spliced s c p at bs h = rw (length-splice p at bs) h
 -- the replay with bytes put into page p of account a, from its byte w on
 abbrev pub put : Replay → ℕ → ℕ → ℕ → List ℕ → Replay
 put r a p w bs =
-    record { plain = λ i. pick (eqb i a) (splice (r .plain i) (4096 * p + w) bs) (r .plain i); touched = r .touched }
+    record { plain = λ i. pick (eqb i a) (splice (r .plain i) (pageSize * p + w) bs) (r .plain i); touched = r .touched }
 
 module _ (r : Replay) (a p w : ℕ) (bs : List ℕ) (d : ℕ) where
   -- each copy keeps its length
   put-length : length (put r a p w bs .plain d) ≡ length (r .plain d)
-  put-length = by-test (eqb d a) (λ e. rw e (length-splice (r .plain d) (4096 * p + w) bs)) (λ e. rw e)
+  put-length = by-test (eqb d a) (λ e. rw e (length-splice (r .plain d) (pageSize * p + w) bs)) (λ e. rw e)
 
   -- another page keeps its bytes
-  put-other : w + length bs ≤ 4096 → (q k : ℕ) → (d ≡ a → q ≢ p) → k < 4096
-      → getD (put r a p w bs .plain d) (4096 * q + k) 0 ≡ getD (r .plain d) (4096 * q + k) 0
+  put-other : w + length bs ≤ pageSize → (q k : ℕ) → (d ≡ a → q ≢ p) → k < pageSize
+      → getD (put r a p w bs .plain d) (pageSize * q + k) 0 ≡ getD (r .plain d) (pageSize * q + k) 0
   put-other h q k n l =
       by-test (eqb d a) (λ e. rw e (elsewhere (r .plain d) p w bs h q k (n (eqb-true d a e)) l)) (λ e. rw e)
 
 module _ {s : List ℕ} {b : Buffers} {r : Replay} (g : Good s b r) (a p f w : ℕ) (bs : List ℕ)
-    (low : f < frames (b .control)) (has : claims (b .control) (copyOf a p) f ≡ true) (in-page : w + length bs ≤ 4096)
-    (present : 4096 * p + w + length bs ≤ dataLength (entryOf s (record { 0 = a }))) where
+    (low : f < frames (b .control)) (has : claims (b .control) (copyOf a p) f ≡ true) (in-page : w + length bs ≤ pageSize)
+    (present : pageSize * p + w + length bs ≤ dataLength (entryOf s (record { 0 = a }))) where
   -- each copy is as its plain copy: the page stored to by the same bytes, another as before
-  held-stored : (d q i : ℕ) → i < frames (b .control) → claims (b .control) (copyOf d q) i ≡ true → (k : ℕ) → k < 4096
-      → getD (splice (b .pool) (4096 * f + w) bs) (4096 * i + k) 0 ≡ getD (put r a p w bs .plain d) (4096 * q + k) 0
+  held-stored : (d q i : ℕ) → i < frames (b .control) → claims (b .control) (copyOf d q) i ≡ true → (k : ℕ) → k < pageSize
+      → getD (splice (b .pool) (pageSize * f + w) bs) (pageSize * i + k) 0 ≡ getD (put r a p w bs .plain d) (pageSize * q + k) 0
   held-stored d q i l c k n =
       page-cases a p d q
       (λ x y.
       let z : i ≡ f = g .once a p i f l low (rw (x, y) at c) has in
       rw (x, y, z, eq-eqb a a refl)
-      (alike (b .pool) (r .plain a) (4096 * f) (4096 * p) w bs (omega (arith, pool-length g))
+      (alike (b .pool) (r .plain a) (pageSize * f) (pageSize * p) w bs (omega (arith, pool-length g))
       (omega (arith, g .sized a, length-original s (record { 0 = a }))) k (g .held a p f low has k n)))
       (λ m.
       let z : i ≢ f = λ y. let u = claims-one (b .control) f _ _ _ _ (rw y at c) has in m (u .0) (u .1) in
       elsewhere (b .pool) f w bs in-page i k z n ∙ g .held d q i l c k n ∙ sym (put-other r a p w bs d in-page q k m n))
 
   -- a page without a frame is not the one stored to
-  kept-stored : (d q : ℕ) → d < 65536 → q < 65536 → r .touched (keyOf d q) ≡ false → (k : ℕ) → k < 4096
-      → getD (put r a p w bs .plain d) (4096 * q + k) 0 ≡ getD (original s (record { 0 = d })) (4096 * q + k) 0
+  kept-stored : (d q : ℕ) → d < 65536 → q < 65536 → r .touched (keyOf d q) ≡ false → (k : ℕ) → k < pageSize
+      → getD (put r a p w bs .plain d) (pageSize * q + k) 0 ≡ getD (original s (record { 0 = d })) (pageSize * q + k) 0
   kept-stored d q hd hq t k n =
       page-cases a p d q (λ x y. absurd (differ _ (claim-touched g a p f low has) (rw (x, y) at t)))
       (λ m. put-other r a p w bs d in-page q k m n ∙ g .kept d q hd hq t k n)
 
   -- they keep the invariant, with the plain copy of the account stored to as well
-  pub keep-stored : Good s (record { control = b .control; pool = splice (b .pool) (4096 * f + w) bs }) (put r a p w bs)
+  pub keep-stored : Good s (record { control = b .control; pool = splice (b .pool) (pageSize * f + w) bs }) (put r a p w bs)
   keep-stored =
       record {
-        buffers = buffers-spliced s (b .control) (b .pool) (4096 * f + w) bs (g .buffers);
+        buffers = buffers-spliced s (b .control) (b .pool) (pageSize * f + w) bs (g .buffers);
         records = g .records;
         ranged = g .ranged;
         sized = λ d. put-length r a p w bs d ∙ g .sized d;
@@ -122,24 +125,28 @@ module _ {s : List ℕ} {b : Buffers} {r : Replay} (g : Good s b r) (a p f w : �
 abbrev pub marked : Replay → ℕ → ℕ → Replay
 marked r a p = record { plain = r .plain; touched = λ k. either (eqb k (keyOf a p)) (r .touched k) }
 
--- the copy of page p of account a, as an entry
-abbrev entryFor : ℕ → ℕ → FrameEntry
-entryFor a p = copyEntry (record { 0 = a }) (record { 0 = p })
+-- the buffers with the frame taken for the page
+abbrev pub copied : List ℕ → Buffers → NewCopy → Buffers
+copied s b t = record { control = takenControl (b .control) t; pool = takenPool s (b .pool) t }
 
--- its bytes
-abbrev pageFor : List ℕ → ℕ → ℕ → List ℕ
-pageFor s a p = originalPage s (record { 0 = a }) (record { 0 = p })
+module _ {s : List ℕ} {b : Buffers} {r : Replay} (g : Good s b r) (t : NewCopy) (low : t .frame .0 < frames (b .control))
+    (free : isFree (b .control) (t .frame .0) ≡ true) (none : frameOf (b .control) (Copy (t .account) (t .page)) ≡ Nothing)
+    (page : LivePage s (t .account .0) (t .page .0)) where
+  -- the account
+  abbrev a : ℕ
+  a = t .account .0
 
--- the buffers with frame f taken for page p of account a
-abbrev pub copied : List ℕ → Buffers → ℕ → ℕ → ℕ → Buffers
-copied s b f a p =
-    record { control = putFrameEntry (b .control) f (entryFor a p); pool = splice (b .pool) (4096 * f) (pageFor s a p) }
+  -- the page
+  abbrev p : ℕ
+  p = t .page .0
 
-module _ {s : List ℕ} {b : Buffers} {r : Replay} (g : Good s b r) (a p f : ℕ) (low : f < frames (b .control))
-    (free : isFree (b .control) f ≡ true) (none : frameOf (b .control) (copyOf a p) ≡ Nothing) (page : LivePage s a p) where
+  -- the frame
+  abbrev f : ℕ
+  f = t .frame .0
+
   -- the control block with the copy's entry
   abbrev c′ : List ℕ
-  c′ = copied s b f a p .control
+  c′ = copied s b t .control
 
   -- account and page fit an entry, and the entry the table
   valid : BuffersFacts s (b .control) (b .pool)
@@ -149,9 +156,9 @@ module _ {s : List ℕ} {b : Buffers} {r : Replay} (g : Good s b r) (a p f : ℕ
   small-a = omega (arith, page .known, snapshot-facts s (valid .snapshot) .few-accounts)
 
   small-p : p < 65536
-  small-p = omega (arith, page .present, data-short s (record { 0 = a }) (page .entry))
+  small-p = omega (arith, page .present, data-short s (t .account) (page .entry))
 
-  range : EntryRange (entryFor a p)
+  range : EntryRange (copyEntry t)
   range = record { usage = omega arith; tag = omega arith; account = small-a; page = small-p; zero = omega arith }
 
   slot : entryEnd f ≤ length (b .control)
@@ -161,18 +168,18 @@ module _ {s : List ℕ} {b : Buffers} {r : Replay} (g : Good s b r) (a p f : ℕ
   few = control-facts (b .control) (valid .control) .few-live
 
   same-frames : frames c′ ≡ frames (b .control)
-  same-frames = frames-kept (b .control) f (entryFor a p)
+  same-frames = frames-kept (b .control) f (copyEntry t)
 
   -- the entry holds the page
-  holds-page : holds (copyOf a p) (entryFor a p) ≡ true
-  holds-page = copy-holds _ _ (entryFor a p) (record { usage = refl; account = refl; page = refl })
+  holds-page : holds (copyOf a p) (copyEntry t) ≡ true
+  holds-page = copy-holds _ _ (copyEntry t) (record { usage = refl; account = refl; page = refl })
 
   -- and claims what it holds
-  entry-claims : (x : Claim) → claims c′ x f ≡ holds x (entryFor a p)
-  entry-claims = claims-same (b .control) f (entryFor a p) range slot
+  entry-claims : (x : Claim) → claims c′ x f ≡ holds x (copyEntry t)
+  entry-claims = claims-same (b .control) f (copyEntry t) range slot
 
   -- the frame's new entry claims the page
-  pub new-claim : claims (copied s b f a p .control) (copyOf a p) f ≡ true
+  pub new-claim : claims (copied s b t .control) (copyOf a p) f ≡ true
   new-claim = entry-claims (copyOf a p) ∙ holds-page
 
   -- an entry that claims a page now is the new one, or claimed it before
@@ -181,9 +188,9 @@ module _ {s : List ℕ} {b : Buffers} {r : Replay} (g : Good s b r) (a p f : ℕ
   claim-cases d q i c h o =
       elim (ℕ-discrete i f) [
         | yes e ↦
-            let u = holds-copy _ _ (entryFor a p) (sym (entry-claims (copyOf d q)) ∙ rw e at c) in
+            let u = holds-copy _ _ (copyEntry t) (sym (entry-claims (copyOf d q)) ∙ rw e at c) in
             h e (sym (u .account)) (sym (u .page))
-        | no e ↦ o e (sym (claims-other (b .control) f (entryFor a p) (copyOf d q) i e) ∙ c)
+        | no e ↦ o e (sym (claims-other (b .control) f (copyEntry t) (copyOf d q) i e) ∙ c)
       ]
 
   -- no entry claimed the page before
@@ -193,8 +200,8 @@ module _ {s : List ℕ} {b : Buffers} {r : Replay} (g : Good s b r) (a p f : ℕ
   -- the shadow records stay
   records-copied : (k : ℕ) → 1 ≤ k → k ≤ invocations c′ → LiveRecord s c′ k
   records-copied k l h =
-      let m : k ≤ invocations (b .control) = rw (invocations-kept (b .control) f (entryFor a p)) at h in
-      let e = invocation-kept (b .control) f (entryFor a p) k (omega (arith, few)) in
+      let m : k ≤ invocations (b .control) = rw (invocations-kept (b .control) f (copyEntry t)) at h in
+      let e = invocation-kept (b .control) f (copyEntry t) k (omega (arith, few)) in
       let u = g .records k l m in
       record { program = rw e (u .program); stack = rw e (u .stack); heap = rw e (u .heap) }
 
@@ -202,8 +209,8 @@ module _ {s : List ℕ} {b : Buffers} {r : Replay} (g : Good s b r) (a p f : ℕ
   ranged-copied : (i : ℕ) → i < frames c′ → EntryRange (frameEntryOf c′ i)
   ranged-copied i l =
       elim (ℕ-discrete i f) [
-        | yes e ↦ rw (e, entry-same (b .control) f (entryFor a p) range slot) range
-        | no e ↦ rw (entry-other (b .control) f (entryFor a p) i e) (g .ranged i (rw same-frames at l))
+        | yes e ↦ rw (e, entry-same (b .control) f (copyEntry t) range slot) range
+        | no e ↦ rw (entry-other (b .control) f (copyEntry t) i e) (g .ranged i (rw same-frames at l))
       ]
 
   -- the page has a frame now, and every other has one where it had
@@ -213,15 +220,15 @@ module _ {s : List ℕ} {b : Buffers} {r : Replay} (g : Good s b r) (a p f : ℕ
       by-test (eqb k (keyOf a p))
       (λ e.
       let x : keyClaim k ≡ copyOf a p = ap keyClaim (eqb-true k (keyOf a p) e) ∙ key-claim a p small-a small-p in
-      rw (e, x, frame-taken (b .control) f (entryFor a p) range slot (copyOf a p) none low holds-page))
+      rw (e, x, frame-taken (b .control) f (copyEntry t) range slot (copyOf a p) none low holds-page))
       (λ e.
-      let o : holds (keyClaim k) (entryFor a p) ≡ false =
-      by-test (holds (keyClaim k) (entryFor a p))
-      (λ t.
-      let u = holds-copy _ _ (entryFor a p) t in
+      let o : holds (keyClaim k) (copyEntry t) ≡ false =
+      by-test (holds (keyClaim k) (copyEntry t))
+      (λ y.
+      let u = holds-copy _ _ (copyEntry t) y in
       absurd (eqb-false k (keyOf a p) e (omega (arith, u .account, u .page))))
-      (λ t. t) in
-      rw (e, frame-kept (b .control) f (entryFor a p) range slot (keyClaim k) (free-claims (b .control) f free (keyClaim k)) o)
+      (λ y. y) in
+      rw (e, frame-kept (b .control) f (copyEntry t) range slot (keyClaim k) (free-claims (b .control) f free (keyClaim k)) o)
       (g .claimed k h))
 
   -- no page is claimed twice
@@ -239,31 +246,31 @@ module _ {s : List ℕ} {b : Buffers} {r : Replay} (g : Good s b r) (a p f : ℕ
   live-copied d q i l c = claim-cases d q i c (λ e x y. rw (x, y) page) (λ e m. g .live d q i (rw same-frames at l) m)
 
   -- the frame has the original bytes, which the plain copy has still; every other frame is as before
-  held-copied : (d q i : ℕ) → i < frames c′ → claims c′ (copyOf d q) i ≡ true → (k : ℕ) → k < 4096
-      → getD (copied s b f a p .pool) (4096 * i + k) 0 ≡ getD (r .plain d) (4096 * q + k) 0
+  held-copied : (d q i : ℕ) → i < frames c′ → claims c′ (copyOf d q) i ≡ true → (k : ℕ) → k < pageSize
+      → getD (copied s b t .pool) (pageSize * i + k) 0 ≡ getD (r .plain d) (pageSize * q + k) 0
   held-copied d q i l c k n =
       claim-cases d q i c
       (λ e x y.
       rw (e, x, y)
-      (copied-byte s (b .pool) (record { 0 = f }) (record { 0 = a }) (record { 0 = p }) (omega (arith, pool-length g)) k n
+      (copied-byte s (b .pool) t (omega (arith, pool-length g)) k n
       ∙ sym (g .kept a p small-a small-p (touched-found g a p small-a small-p ∙ rw none) k n)))
       (λ e m.
-      let z : 4096 * f + 0 ≡ 4096 * f = omega arith in
-      rw z at (elsewhere (b .pool) f 0 (pageFor s a p) (simp length-original-page (omega arith)) i k e n)
+      let z : pageSize * f + 0 ≡ pageSize * f = omega arith in
+      rw z at (elsewhere (b .pool) f 0 (originalPage s (t .account) (t .page)) (simp length-original-page (omega arith)) i k e n)
       ∙ g .held d q i (rw same-frames at l) m k n)
 
   -- a page not in the set now was not before
-  kept-copied : (d q : ℕ) → d < 65536 → q < 65536 → marked r a p .touched (keyOf d q) ≡ false → (k : ℕ) → k < 4096
-      → getD (r .plain d) (4096 * q + k) 0 ≡ getD (original s (record { 0 = d })) (4096 * q + k) 0
-  kept-copied d q hd hq t k n =
-      by-test (eqb (keyOf d q) (keyOf a p)) (λ e. absurd (differ true refl (rw e at t))) (λ e. g .kept d q hd hq (rw e at t) k n)
+  kept-copied : (d q : ℕ) → d < 65536 → q < 65536 → marked r a p .touched (keyOf d q) ≡ false → (k : ℕ) → k < pageSize
+      → getD (r .plain d) (pageSize * q + k) 0 ≡ getD (original s (record { 0 = d })) (pageSize * q + k) 0
+  kept-copied d q hd hq y k n =
+      by-test (eqb (keyOf d q) (keyOf a p)) (λ e. absurd (differ true refl (rw e at y))) (λ e. g .kept d q hd hq (rw e at y) k n)
 
   -- a free frame taken for a page that has none keeps the invariant, with the page in the set
-  pub keep-copied : Good s (copied s b f a p) (marked r a p)
+  pub keep-copied : Good s (copied s b t) (marked r a p)
   keep-copied =
       record {
         buffers =
-            buffers-spliced s c′ (b .pool) (4096 * f) _ (buffers-valid-kept (b .control) f (entryFor a p) s (b .pool) ∙ g .buffers);
+            buffers-spliced s c′ (b .pool) (pageSize * f) _ (buffers-valid-kept (b .control) f (copyEntry t) s (b .pool) ∙ g .buffers);
         records = records-copied;
         ranged = ranged-copied;
         sized = g .sized;
@@ -284,7 +291,7 @@ marked-same r a p h =
 
 -- what the replay does: the page joins the set, and the bytes go in
 stored-is : (r : Replay) (a : ℕ) (bytes : List ℕ)
-    → put (marked r (indexOf a) (offsetOf a / 4096)) (indexOf a) (offsetOf a / 4096) (offsetOf a % 4096) bytes ≡ stored r a bytes
+    → put (marked r (indexOf a) (offsetOf a / pageSize)) (indexOf a) (offsetOf a / pageSize) (offsetOf a % pageSize) bytes ≡ stored r a bytes
 unfolding stored
 stored-is r a bytes =
     ap
@@ -292,10 +299,15 @@ stored-is r a bytes =
     let x : Replay =
     record {
       plain = λ i. pick (eqb i (indexOf a)) (splice (r .plain i) o bytes) (r .plain i);
-      touched = λ k. either (eqb k (keyOf (indexOf a) (offsetOf a / 4096))) (r .touched k);
+      touched = λ k. either (eqb k (keyOf (indexOf a) (offsetOf a / pageSize))) (r .touched k);
     } in
     x)
-    (div-add-mod (offsetOf a) 4096)
+    (div-add-mod (offsetOf a) pageSize)
+
+-- the same of an account and a page that are the address's
+stored-at : (r : Replay) (a : ℕ) (bytes : List ℕ) (d q : ℕ) → d ≡ indexOf a → q ≡ offsetOf a / pageSize
+    → put (marked r d q) d q (offsetOf a % pageSize) bytes ≡ stored r a bytes
+stored-at r a bytes d q u v = rw (u, v) (stored-is r a bytes)
 
 -- the buffers after a store
 abbrev pub afterStore : List ℕ → Buffers → Place → List ℕ → Buffers
@@ -304,27 +316,26 @@ afterStore s b q bytes =
 
 module _ {s : List ℕ} {b : Buffers} {r : Replay} (g : Good s b r) (kind a : ℕ) (bytes : List ℕ) where
   -- account data: the page has a frame, or gets one
-  keep-data : {q : Place} → DataAccess s (b .control) (b .pool) kind a (length bytes) → StorePlace (b .control) kind a q
+  keep-data : {q : Place} → DataAccess s a (length bytes) → StorePlace (b .control) kind a q
       → Good s (afterStore s b q bytes) (stored r a bytes)
   keep-data d (into-copy h x) =
       let i = frame-found (b .control) _ (x .frame) (x .held) in
       rw (x .place, ← stored-is r a bytes, marked-same r _ _ (claim-touched g _ _ (x .frame .0) (i .below) (i .passes)))
-      (keep-stored g (indexOf a) (offsetOf a / 4096) (x .frame .0) (offsetOf a % 4096) bytes (i .below) (i .passes) (d .within)
+      (keep-stored g (indexOf a) (offsetOf a / pageSize) (x .frame .0) (offsetOf a % pageSize) bytes (i .below) (i .passes) (d .within)
       (omega (arith, d .present)))
-  keep-data d (into-new {f} x) =
-      let i = free-found (b .control) f (x .free) in
-      let none : frameOf (b .control) (copyOf (indexOf a) (offsetOf a / 4096)) ≡ Nothing = rw (x .account, x .page) at (x .none) in
-      let page : LivePage s (indexOf a) (offsetOf a / 4096) =
-      record { known = d .account; entry = d .entry; present = omega (arith, d .present, d .some) } in
-      rw (x .account, x .page, x .place, ← stored-is r a bytes)
-      (keep-stored (keep-copied g _ _ (f .0) (i .below) (i .passes) none page) (indexOf a) (offsetOf a / 4096) (f .0)
-      (offsetOf a % 4096) bytes
-      (rw (frames-kept (b .control) (f .0) (entryFor (indexOf a) (offsetOf a / 4096))) (i .below))
-      (new-claim g _ _ (f .0) (i .below) (i .passes) none page) (d .within) (omega (arith, d .present)))
+  keep-data d (into-new {t} x) =
+      let i = free-found (b .control) (t .frame) (x .free) in
+      let page : LivePage s (t .account .0) (t .page .0) =
+      rw (x .account, x .page) (record { known = d .account; entry = d .entry; present = omega (arith, d .present, d .some) }) in
+      let k =
+      keep-stored (keep-copied g t (i .below) (i .passes) (x .none) page) (t .account .0) (t .page .0) (t .frame .0) (offsetOf a % pageSize) bytes
+      (rw (frames-kept (b .control) (t .frame .0) (copyEntry t)) (i .below)) (new-claim g t (i .below) (i .passes) (x .none) page) (d .within)
+      (rw (x .account, x .page) (omega (arith, d .present))) in
+      rw (x .place, ← stored-at r a bytes (t .account .0) (t .page .0) (rw (x .account)) (rw (x .page))) k
   keep-data d (into-region h m x) = absurd (m (d .type))
 
   -- elsewhere: an entry has one use, so the frame is no copy
-  keep-region : {q : Place} → offsetOf a % 4096 + length bytes ≤ 4096 → typeOf a ≢ 3 → StorePlace (b .control) kind a q
+  keep-region : {q : Place} → offsetOf a % pageSize + length bytes ≤ pageSize → typeOf a ≢ 3 → StorePlace (b .control) kind a q
       → Good s (afterStore s b q bytes) r
   keep-region l m (into-copy h x) = absurd (m h)
   keep-region l m (into-new x) = absurd (m (x .type))
@@ -342,7 +353,7 @@ module _ {s : List ℕ} {b : Buffers} {r : Replay} (g : Good s b r) (kind a : �
         live = g .live;
         held =
             λ d q j low c k n.
-            elsewhere (b .pool) (x .frame .0) (offsetOf a % 4096) bytes l j k
+            elsewhere (b .pool) (x .frame .0) (offsetOf a % pageSize) bytes l j k
             (λ e. no-copy h (sym (u .usage) ∙ claims-copy (b .control) (x .frame .0) _ _ (rw e at c) .usage)) n
             ∙ g .held d q j low c k n;
         kept = g .kept;
@@ -364,4 +375,4 @@ module _ {s : List ℕ} {b : Buffers} {r : Replay} (g : Good s b r) (kind a : �
 
     -- elsewhere keeps it as it is
     pub keep-region-store : typeOf a ≢ 3 → Good s (afterStore s b q bytes) r
-    keep-region-store h = keep-region (rw size (region-accepted s (b .control) (b .pool) kind a n e refl store h .within)) h place
+    keep-region-store h = keep-region (rw size (accepted s (b .control) (b .pool) kind a n e refl .passed .within)) h place

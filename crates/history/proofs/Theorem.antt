@@ -4,8 +4,9 @@ use mathlib.Core.List.{List, _∷_}
 use mathlib.Core.Path.{_≡_}
 use mathlib.Core.Bool.{true}
 use Prim.Native.Nat.{ℕ}
-use Rattle.snapshot.specs.declared.accounts.Account.{Account}
-use Rattle.history.specs.Calls.{Call, begin, Buffers, accepted, run}
+use Rattle.control.specs.Buffers.{Buffers}
+use Rattle.invoke.specs.declared.begin.Start.{Start}
+use Rattle.history.specs.Calls.{Call, begin, accepted, run}
 use Rattle.history.specs.Replay.{started, replay, feed}
 use Rattle.history.specs.Claims.{DemandThree, LoadsRight}
 use Rattle.history.proofs.Good.{Good}
@@ -16,17 +17,17 @@ use Rattle.history.proofs.Listing.{list-right}
 use Rattle.history.proofs.Applying.{apply-right}
 
 -- after a history that opens with an accepted begin the invariant holds, and every load was right
-pub good-after : (s : List ℕ) (b : Buffers) (a : Account) (ks : List Call) → accepted s b (begin a) ≡ true
-    → Good s (run s b (begin a ∷ ks)) (replay s (started s) (feed s b (begin a ∷ ks))) × LoadsRight s b (started s) (begin a ∷ ks)
+pub good-after : (s : List ℕ) (b : Buffers) (x : Start) (ks : List Call) → accepted s b (begin x) ≡ true
+    → Good s (run s b (begin x ∷ ks)) (replay s (started s) (feed s b (begin x ∷ ks))) × LoadsRight s b (started s) (begin x ∷ ks)
 good-after = from-begin keep-step (λ s b r g. right-call g)
 
 -- demand 3, whole
 pub demand-three : DemandThree
 unfolding DemandThree
-demand-three s b a ks e =
-    let g = good-after s b a ks e in
+demand-three s b x ks e =
+    let g = good-after s b x ks e in
     record {
-      list = list-right s (run s b (begin a ∷ ks)) (replay s (started s) (feed s b (begin a ∷ ks))) (g .0);
-      apply = apply-right s (run s b (begin a ∷ ks)) (replay s (started s) (feed s b (begin a ∷ ks))) (g .0);
+      list = list-right s (run s b (begin x ∷ ks)) (replay s (started s) (feed s b (begin x ∷ ks))) (g .0);
+      apply = apply-right s (run s b (begin x ∷ ks)) (replay s (started s) (feed s b (begin x ∷ ks))) (g .0);
       loads = g .1;
     }

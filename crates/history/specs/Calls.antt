@@ -7,12 +7,14 @@ use lib.Dec.{eqb}
 use Rattle.words.specs.Words.{wordBytes}
 use Rattle.refusal.specs.Numbers.{done}
 use Rattle.snapshot.specs.declared.accounts.Account.{Account}
-use Rattle.frames.specs.declared.table.Page.{Page}
+use Rattle.control.specs.Buffers.{Buffers}
+use Rattle.pages.specs.declared.Page.{Page}
 use Rattle.segments.specs.Kinds.{kindStore, kindStoreSpan}
 use Rattle.translate.specs.Place.{numberOfAnswer}
 use Rattle.translate.specs.Translate.{translateOf}
-use Rattle.access.specs.Loads.{loadOf, fetchOf, loadSpanNumber, loadSpanOut}
-use Rattle.access.specs.Stores.{storeNumber, storeControl, storePool}
+use Rattle.access.specs.Loads.{loadOf, fetchOf, loadSpanOutcome, loadSpanOut}
+use Rattle.access.specs.Stores.{storeOutcome, storeControl, storePool}
+use Rattle.invoke.specs.declared.begin.Start.{Start}
 use Rattle.invoke.specs.Invoke.{beginNumber, beginControl, callNumber, callControl, returnNumber, returnControl, returnOut}
 use Rattle.regions.specs.Resize.{resizeOf}
 use Rattle.changes.specs.List.{changeListNumber, changeListOut}
@@ -22,7 +24,7 @@ use lib.ListN.{length}
 -- "begin, translation, load, store, fetch, span load, span store, call, return, resize, change list, page view", each with its
 -- arguments but the three buffers. A lent buffer is given by the bytes that it brings: it "may be lent again and bring any bytes".
 pub data Call : Type 0 where
-  begin : Account → Call
+  begin : Start → Call
   translation : (kind address size : ℕ) → Call
   load : (address size : ℕ) → Call
   store : (address size stored : ℕ) → Call
@@ -34,11 +36,6 @@ pub data Call : Type 0 where
   resize : (region pages : ℕ) → Call
   change-list : (out : List ℕ) → Call
   page-view : Account → Page → Call
-
--- the two working buffers
-pub record Buffers : Type 0 where
-  pub control : List ℕ
-  pub pool : List ℕ
 
 -- what a call gives: its number, its value, and the bytes of its lent buffer afterwards or of its view
 pub record Answer : Type 0 where
@@ -56,34 +53,36 @@ abbrev pub reads : Buffers → ℕ → ℕ → List ℕ → Step
 reads b number value bytes = record { answer = record { number = number; value = value; bytes = bytes }; after = b }
 
 -- a call that writes working buffers
-abbrev pub writes : List ℕ → List ℕ → ℕ → List ℕ → Step
-writes c p number bytes = record { answer = record { number = number; value = 0; bytes = bytes }; after = record { control = c; pool = p } }
+abbrev pub writes : Buffers → ℕ → List ℕ → Step
+writes after number bytes = record { answer = record { number = number; value = 0; bytes = bytes }; after = after }
+
+-- the working buffers, one by one
+abbrev pub buffers : List ℕ → List ℕ → Buffers
+buffers c p = record { control = c; pool = p }
 
 -- one call: "Every call is lent the same read-only buffer, and the same two working buffers as the last call left them."
 unfoldable pub stepOf : List ℕ → Buffers → Call → Step
-stepOf s b (begin a) = writes (beginControl s (b .control) (b .pool) a) (b .pool) (beginNumber s (b .control) (b .pool) a) []
+stepOf s b (begin x) = writes (buffers (beginControl s (b .control) (b .pool) x) (b .pool)) (beginNumber s (b .control) (b .pool) x) []
 stepOf s b (translation kind a n) = reads b (numberOfAnswer (translateOf s (b .control) (b .pool) kind a n)) 0 []
-stepOf s b (load a n) = reads b (loadOf s (b .control) (b .pool) a n .number) (loadOf s (b .control) (b .pool) a n .value) []
+stepOf s b (load a n) = reads b (loadOf s (b .control) (b .pool) a n .outcome .number) (loadOf s (b .control) (b .pool) a n .value) []
 stepOf s b (store a n v) =
-    writes (storeControl s (b .control) (b .pool) kindStore a n) (storePool s (b .control) (b .pool) kindStore a (wordBytes n v))
-    (storeNumber s (b .control) (b .pool) kindStore a n)
+    writes (buffers (storeControl s (b .control) (b .pool) kindStore a n) (storePool s (b .control) (b .pool) kindStore a (wordBytes n v)))
+    (storeOutcome s (b .control) (b .pool) kindStore a n .number)
     []
-stepOf s b (fetch a n) = reads b (fetchOf s (b .control) (b .pool) a n .number) (fetchOf s (b .control) (b .pool) a n .value) []
+stepOf s b (fetch a n) = reads b (fetchOf s (b .control) (b .pool) a n .outcome .number) (fetchOf s (b .control) (b .pool) a n .value) []
 stepOf s b (load-span a out) =
-    reads b (loadSpanNumber s (b .control) (b .pool) a out) 0 (loadSpanOut s (b .control) (b .pool) a out)
+    reads b (loadSpanOutcome s (b .control) (b .pool) a out .number) 0 (loadSpanOut s (b .control) (b .pool) a out)
 stepOf s b (store-span a bytes) =
-    writes (storeControl s (b .control) (b .pool) kindStoreSpan a (length bytes)) (storePool s (b .control) (b .pool) kindStoreSpan a bytes)
-    (storeNumber s (b .control) (b .pool) kindStoreSpan a (length bytes))
+    writes (buffers (storeControl s (b .control) (b .pool) kindStoreSpan a (length bytes)) (storePool s (b .control) (b .pool) kindStoreSpan a bytes))
+    (storeOutcome s (b .control) (b .pool) kindStoreSpan a (length bytes) .number)
     []
 stepOf s b (call a registers) =
-    writes (callControl s (b .control) (b .pool) a registers) (b .pool) (callNumber s (b .control) (b .pool) a registers) []
+    writes (buffers (callControl s (b .control) (b .pool) a registers) (b .pool)) (callNumber s (b .control) (b .pool) a registers) []
 stepOf s b (return registers) =
-    writes (returnControl s (b .control) (b .pool) registers) (b .pool) (returnNumber s (b .control) (b .pool) registers)
+    writes (buffers (returnControl s (b .control) (b .pool) registers) (b .pool)) (returnNumber s (b .control) (b .pool) registers)
     (returnOut s (b .control) (b .pool) registers)
 stepOf s b (resize region n) =
-    writes (resizeOf s (b .control) (b .pool) region n .control) (resizeOf s (b .control) (b .pool) region n .pool)
-    (resizeOf s (b .control) (b .pool) region n .number)
-    []
+    writes (resizeOf s (b .control) (b .pool) region n .after) (resizeOf s (b .control) (b .pool) region n .number) []
 stepOf s b (change-list out) =
     reads b (changeListNumber s (b .control) (b .pool) out) 0 (changeListOut s (b .control) (b .pool) out)
 stepOf s b (page-view a q) =
@@ -92,6 +91,27 @@ stepOf s b (page-view a q) =
 -- "Accepted means answered with 0."
 abbrev pub accepted : List ℕ → Buffers → Call → Bool
 accepted s b k = eqb (stepOf s b k .answer .number) done
+
+-- what a call means to the replay: it starts anew, it stores these bytes at an address, or neither
+pub data Effect : Type 0 where
+  starts : Effect
+  stores : (address : ℕ) (bytes : List ℕ) → Effect
+  other : Effect
+
+-- the effect of each call, once it is accepted
+unfoldable pub effect : Call → Effect
+effect (begin x) = starts
+effect (translation kind a n) = other
+effect (load a n) = other
+effect (store a n v) = stores a (wordBytes n v)
+effect (fetch a n) = other
+effect (load-span a out) = other
+effect (store-span a bytes) = stores a bytes
+effect (call a registers) = other
+effect (return registers) = other
+effect (resize region n) = other
+effect (change-list out) = other
+effect (page-view a q) = other
 
 -- the working buffers after a list of calls
 unfoldable pub run : List ℕ → Buffers → List Call → Buffers

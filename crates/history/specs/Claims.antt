@@ -4,22 +4,25 @@ use mathlib.Core.Path.{_≡_}
 use mathlib.Core.Bool.{true}
 use mathlib.Core.List.{List, [], _∷_}
 use lib.ListN.{length}
+use Rattle.layout.specs.List.{listTotal}
 use Rattle.words.specs.Words.{wordAt, bytesAt, splice}
 use Rattle.refusal.specs.Numbers.{done}
 use Rattle.address.specs.Address.{indexOf, offsetOf}
 use Rattle.snapshot.specs.Accounts.{known, entryValid, original}
 use Rattle.snapshot.specs.declared.accounts.Account.{Account}
 use Rattle.control.specs.Control.{current}
-use Rattle.changes.specs.List.{listTotal, changeListNumber, changeListOut}
+use Rattle.control.specs.Buffers.{Buffers}
+use Rattle.invoke.specs.declared.begin.Start.{Start}
+use Rattle.changes.specs.List.{changeListNumber, changeListOut}
 use Rattle.apply.specs.Apply.{applyNumber, applyData}
 use Rattle.lifecycle.specs.Regions.{framesInUse}
-use Rattle.history.specs.Calls.{Call, begin, translation, load, store, fetch, load-span, store-span, call, return, resize, change-list, page-view, Answer, Buffers, stepOf, accepted, run}
+use Rattle.history.specs.Calls.{Call, begin, translation, load, store, fetch, load-span, store-span, call, return, resize, change-list, page-view, Answer, stepOf, accepted, run}
 use Rattle.history.specs.Replay.{Replay, started, inData, replayStep, replay, feed, touchedKeys, expectedList}
 
 -- "Every accepted load or span load in type 3 gave the bytes that the plain copy its index names held there at that call, a load as
 -- their little-endian number."
 unfoldable pub LoadRight : Replay → Call → Answer → Type 0
-LoadRight r (begin a) x = Unit {0}
+LoadRight r (begin p) x = Unit {0}
 LoadRight r (translation kind a n) x = Unit {0}
 LoadRight r (load a n) x = x .number ≡ done → inData a ≡ true → x .value ≡ wordAt n (r .plain (indexOf a)) (offsetOf a)
 LoadRight r (store a n v) x = Unit {0}
@@ -64,7 +67,7 @@ pub record HistoryRight (s : List ℕ) (b : Buffers) (ks : List Call) : Type 0 w
 -- opens with an accepted begin
 unfoldable pub DemandThree : Type 0
 DemandThree =
-    (s : List ℕ) (b : Buffers) (a : Account) (ks : List Call) → accepted s b (begin a) ≡ true → HistoryRight s b (begin a ∷ ks)
+    (s : List ℕ) (b : Buffers) (x : Start) (ks : List Call) → accepted s b (begin x) ≡ true → HistoryRight s b (begin x ∷ ks)
 
 -- ---- the frame count rule
 
@@ -72,8 +75,8 @@ DemandThree =
 -- heap pages of frame D."
 unfoldable pub FrameCountRule : Type 0
 FrameCountRule =
-    (s : List ℕ) (b : Buffers) (a : Account) (ks : List Call) → accepted s b (begin a) ≡ true
-    → framesInUse (run s b (begin a ∷ ks) .control)
-    ≡ length (touchedKeys (replay s (started s) (feed s b (begin a ∷ ks))))
-    + current (run s b (begin a ∷ ks) .control) .stack
-    + current (run s b (begin a ∷ ks) .control) .heap
+    (s : List ℕ) (b : Buffers) (x : Start) (ks : List Call) → accepted s b (begin x) ≡ true
+    → framesInUse (run s b (begin x ∷ ks) .control)
+    ≡ length (touchedKeys (replay s (started s) (feed s b (begin x ∷ ks))))
+    + current (run s b (begin x ∷ ks) .control) .stack
+    + current (run s b (begin x ∷ ks) .control) .heap

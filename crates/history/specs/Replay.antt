@@ -3,16 +3,18 @@ use Prim.Native.Nat.{ℕ, _*_, _/_}
 use mathlib.Core.Bool.{Bool, false}
 use mathlib.Core.List.{List, [], _∷_}
 use lib.Dec.{eqb}
+use Rattle.layout.specs.Page.{pageSize}
 use Rattle.words.specs.Words.{wordBytes, bytesAt, splice}
+use Rattle.choice.specs.Search.{picked}
 use Rattle.choice.specs.Choice.{pick, either}
-use Rattle.changes.specs.Keys.{picked}
 use Rattle.address.specs.Address.{typeOf, indexOf, offsetOf}
 use Rattle.snapshot.specs.Accounts.{original}
-use Rattle.control.specs.Control.{pageSize}
-use Rattle.access.specs.Pages.{live}
+use Rattle.control.specs.Buffers.{Buffers}
+use Rattle.pages.specs.Pages.{live}
 use Rattle.changes.specs.Keys.{keyOf, keyAccount, keyPage, keyLimit}
+use Rattle.changes.specs.Entry.{changeOf}
 use Rattle.changes.specs.List.{listBytes, padded}
-use Rattle.history.specs.Calls.{Call, begin, translation, load, store, fetch, load-span, store-span, call, return, resize, change-list, page-view, Buffers, stepOf, accepted}
+use Rattle.history.specs.Calls.{Call, stepOf, accepted, Effect, starts, stores, other, effect}
 
 -- "It keeps, for each account with a fit entry, a plain copy of its data, apart from any other account's, and a set of touched pages
 -- (account, offset/4,096)." A copy is kept for every number; those of other accounts concern no claim. The set is a test on keys.
@@ -36,20 +38,11 @@ stored r a bytes =
       touched = λ k. either (eqb k (keyOf (indexOf a) (offsetOf a / pageSize))) (r .touched k);
     }
 
--- an accepted call; "Every other call .. leaves all as it is."
-unfoldable pub replayCall : List ℕ → Replay → Call → Replay
-replayCall s r (begin a) = started s
-replayCall s r (translation kind a n) = r
-replayCall s r (load a n) = r
-replayCall s r (store a n v) = pick (inData a) (stored r a (wordBytes n v)) r
-replayCall s r (fetch a n) = r
-replayCall s r (load-span a out) = r
-replayCall s r (store-span a bytes) = pick (inData a) (stored r a bytes) r
-replayCall s r (call a registers) = r
-replayCall s r (return registers) = r
-replayCall s r (resize region n) = r
-replayCall s r (change-list out) = r
-replayCall s r (page-view a q) = r
+-- what an accepted call does to it: a store counts "in type 3"; "Every other call .. leaves all as it is."
+unfoldable pub replayEffect : List ℕ → Replay → Effect → Replay
+replayEffect s r starts = started s
+replayEffect s r (stores a bytes) = pick (inData a) (stored r a bytes) r
+replayEffect s r other = r
 
 -- what the replay is fed of a call: "each call's other arguments except ledger and pool, and whether the call was accepted"
 pub record Fed : Type 0 where
@@ -58,7 +51,7 @@ pub record Fed : Type 0 where
 
 -- one call fed; "and every refused one, leaves all as it is"
 abbrev pub replayStep : List ℕ → Replay → Fed → Replay
-replayStep s r f = pick (f .ok) (replayCall s r (f .asked)) r
+replayStep s r f = pick (f .ok) (replayEffect s r (effect (f .asked))) r
 
 -- the replay of a list: "fed the ground, each call's other arguments .., and whether the call was accepted; nothing else"
 unfoldable pub replay : List ℕ → Replay → List Fed → Replay
@@ -81,4 +74,4 @@ plainPage s r k =
 
 -- "Its bytes are those laid out above: an entry for each page of the set and no other, and for each the plain copy's live bytes"
 unfoldable pub expectedList : List ℕ → Replay → List ℕ
-expectedList s r = listBytes s (plainPage s r) (touchedKeys r)
+expectedList s r = listBytes (changeOf s) (plainPage s r) (touchedKeys r)

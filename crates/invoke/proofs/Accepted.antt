@@ -1,17 +1,36 @@
--- The facts by name behind a begin, a call and a return that are accepted: each test of the chain passed. Assumes nothing.
+-- The facts by name behind a program that can be run, and behind a begin, a call and a return that are accepted: each test of the chain passed.
+-- Assumes nothing.
 use Prim.Native.Nat.{ℕ, _≤_, _<_}
 use mathlib.Core.Path.{_≡_}
 use mathlib.Core.Bool.{true}
 use mathlib.Core.List.{List}
+use native.Mathlib.Omega.{arith}
 use borrow.Author.Tests.{leb-true, eqb-true, ltb-true}
+use Rattle.layout.specs.Page.{poolLength}
+use Rattle.layout.specs.Control.{tableAt, frameLimit, liveLimit, registersSize, controlLength}
 use Rattle.choice.proofs.Tests.{both-true}
 use Rattle.refusal.specs.declared.Check.the-variants.{Pass}
-use Rattle.refusal.proofs.Checks.{need-then, need-pass}
-use Rattle.snapshot.specs.Header.{snapshotValid}
+use Rattle.refusal.proofs.Checks.{need-then, need-pass, then-pass}
+use Rattle.snapshot.specs.Header.{accounts, snapshotValid}
 use Rattle.snapshot.specs.declared.accounts.Account.{Account}
-use Rattle.control.specs.Control.{tableAt, frameLimit, liveLimit, registersSize, controlLength, poolLength, invocations}
+use Rattle.snapshot.proofs.Facts.{SnapshotFacts, snapshot-facts}
+use Rattle.snapshot.proofs.Told.{account-facts}
+use Rattle.control.specs.Control.{invocations}
 use Rattle.control.proofs.Facts.{ControlFacts, BuffersFacts, control-facts, buffers-facts}
 use Rattle.invoke.specs.Invoke.{programCheck, framesIn, roomValid, beginCheck, callCheck, returnCheck}
+use Rattle.invoke.specs.declared.begin.Start.{Start}
+
+-- ---- the program
+
+module _ (s : List ℕ) (a : Account) (e : programCheck s a ≡ Pass) where
+  -- it is below the account count
+  pub program-known : a .0 < accounts s
+  unfolding programCheck
+  program-known = ltb-true _ _ (account-facts s a (then-pass _ _ e .0) .0)
+
+  -- its number fits two bytes
+  pub program-fits : snapshotValid s ≡ true → a .0 < 65536
+  program-fits v = let f : SnapshotFacts s = snapshot-facts s v in omega (arith, program-known)
 
 -- ---- begin
 
@@ -36,14 +55,14 @@ room-facts control pool e =
     }
 
 -- what an accepted begin has shown
-pub record BeginFacts (s : List ℕ) (control pool : ℕ) (a : Account) : Type 0 where
+pub record BeginFacts (s : List ℕ) (control pool : ℕ) (x : Start) : Type 0 where
   pub snapshot : snapshotValid s ≡ true
   pub room : roomValid control pool ≡ true
-  pub program : programCheck s a ≡ Pass
+  pub program : programCheck s (x .program) ≡ Pass
 
-pub begin-facts : (s : List ℕ) (control pool : ℕ) (a : Account) → beginCheck s control pool a ≡ Pass → BeginFacts s control pool a
+pub begin-facts : (s : List ℕ) (control pool : ℕ) (x : Start) → beginCheck s control pool x ≡ Pass → BeginFacts s control pool x
 unfolding beginCheck
-begin-facts s control pool a e =
+begin-facts s control pool x e =
     let t = need-then _ _ _ e in
     let b = both-true _ _ (t .0) in
     record { snapshot = b .0; room = b .1; program = t .1 }

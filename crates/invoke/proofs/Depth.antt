@@ -7,29 +7,28 @@ use mathlib.Core.Logic.{_≢_}
 use mathlib.Core.List.{List}
 use native.Mathlib.Omega.{arith}
 use lib.ListN.{length}
-use Rattle.choice.specs.Choice.{pick}
+use Rattle.layout.specs.Control.{liveLimit, registersSize}
 use Rattle.snapshot.specs.declared.accounts.Account.{Account}
-use Rattle.control.specs.Control.{liveLimit, registersSize, frames, invocations, depth, setInvocations, invocationOf, registersOf, current, controlValid, currentValid}
+use Rattle.control.specs.Control.{frames, invocations, depth, setInvocations, invocationOf, current, controlValid, currentValid}
 use Rattle.control.specs.declared.shadow.Invocation.{Invocation}
 use Rattle.control.proofs.Facts.{ControlFacts, CurrentFacts, control-facts, current-facts}
-use Rattle.control.proofs.Live.{live-only, live-frames, live-word, live-invocation, live-registers, live-same, live-valid}
-use Rattle.control.proofs.Records.{OnlyRecord, invocation-other, registers-other, header-kept, record-valid, table-kept, put-only, invocation-same, registers-same, clear-only}
-use Rattle.frames.specs.Table.{frameEntryAt, frameField, frameEntryOf, zeroEntry, holds, claims}
-use Rattle.frames.specs.declared.table.Page.{Page}
+use Rattle.control.proofs.Live.{live-frames, live-word, live-invocation, live-same, live-valid}
+use Rattle.control.proofs.Records.{OnlyRecord, invocation-other, header-kept, record-valid, table-kept, put-only, invocation-same, clear-only}
+use Rattle.pages.specs.declared.Page.{Page}
+use Rattle.frames.specs.Table.{frameEntryAt, frameField, frameEntryOf, holds, claims}
 use Rattle.frames.specs.declared.finding.Claim.the-variants.{Copy}
-use Rattle.invoke.specs.Invoke.{called, leaves, freedBelow, returned}
-use Rattle.invoke.proofs.Freed.{length-freed, freed-frames, freed-invocation, freed-registers, freed-valid, freed-entry, freed-copy}
+use Rattle.frames.proofs.OnlyTable.{OnlyTable, table-frames, table-invocation, table-valid}
+use Rattle.invoke.specs.Invoke.{called, freedBelow, returned}
+use Rattle.invoke.proofs.Freed.{afterwards, freed-only, freed-entry, freed-copy}
 
 -- ---- record k and the number of live invocations written
 
 -- what c′ is to c
 record Moved (k d : ℕ) (c c′ : List ℕ) : Type 0 where
-  size : length c′ ≡ length c
   count : frames c′ ≡ frames c
   live : invocations c′ ≡ d
   valid : controlValid c′ ≡ true
   invocation : (j : ℕ) → j ≢ k → invocationOf c′ j ≡ invocationOf c j
-  registers : (j : ℕ) → j ≢ k → registersOf c′ j ≡ registersOf c j
   entry : (i : ℕ) → frameEntryOf c′ i ≡ frameEntryOf c i
 
 module _ (k d : ℕ) (c : List ℕ) {c₁ : List ℕ} (o : OnlyRecord k c c₁) (l : k ≤ liveLimit) where
@@ -43,12 +42,10 @@ module _ (k d : ℕ) (c : List ℕ) {c₁ : List ℕ} (o : OnlyRecord k c c₁) 
   moved some few v =
       let g : ControlFacts c = control-facts c v in
       record {
-        size = live-only c₁ d .size ∙ o .size;
         count = live-frames c₁ d ∙ header-kept k o 4 0 (omega arith);
         live = live-same c₁ d (omega arith) (omega (arith, o .size));
         valid = live-valid c₁ d some few (record-valid k o ∙ v);
         invocation = λ j h. live-invocation c₁ d j ∙ invocation-other k o j h;
-        registers = λ j h. live-registers c₁ d j ∙ registers-other k o j h;
         entry = λ i. rw (field-moved 1 0 i, field-moved 1 1 i, field-moved 2 2 i, field-moved 2 4 i, field-moved 2 6 i);
       }
 
@@ -66,10 +63,6 @@ module _ (c : List ℕ) (a : Account) (registers : List ℕ) (valid : controlVal
   call-moves =
       moved (invocations c + 1) (invocations c + 1) c (put-only c (invocations c + 1) (callee c a) registers long)
       (omega arith) (omega arith) (omega arith) valid
-
-  -- the length stays
-  pub length-called : length (called c a registers) ≡ length c
-  length-called = call-moves .size
 
   -- the frame count stays
   pub called-frames : frames (called c a registers) ≡ frames c
@@ -91,10 +84,6 @@ module _ (c : List ℕ) (a : Account) (registers : List ℕ) (valid : controlVal
   pub called-invocation : (j : ℕ) → j ≤ invocations c → invocationOf (called c a registers) j ≡ invocationOf c j
   called-invocation j h = call-moves .invocation j (omega arith)
 
-  -- its registers
-  pub called-registers : (j : ℕ) → j ≤ invocations c → registersOf (called c a registers) j ≡ registersOf c j
-  called-registers j h = call-moves .registers j (omega arith)
-
   -- the new record has the program and the caller's sizes
   pub called-new : (n : ℕ) → currentValid c n ≡ true → a .0 < 65536 → invocationOf (called c a registers) (invocations c + 1) ≡ callee c a
   unfolding called
@@ -103,14 +92,6 @@ module _ (c : List ℕ) (a : Account) (registers : List ℕ) (valid : controlVal
       let f : CurrentFacts c n = current-facts c n v in
       live-invocation _ _ (invocations c + 1)
       ∙ invocation-same c (invocations c + 1) (callee c a) registers (omega arith) (g .header) fits (omega arith) (omega arith)
-
-  -- and the registers given
-  pub called-new-registers : registersOf (called c a registers) (invocations c + 1) ≡ registers
-  unfolding called
-  called-new-registers =
-      let g : ControlFacts c = control-facts c valid in
-      live-registers _ _ (invocations c + 1)
-      ∙ registers-same c (invocations c + 1) (callee c a) registers (omega arith) (g .header) long
 
 -- ---- a return
 
@@ -123,21 +104,21 @@ module _ (c : List ℕ) (valid : controlValid c ≡ true) (above : 1 < invocatio
   facts : ControlFacts c
   facts = control-facts c valid
 
+  -- the freed frames
+  emptied : OnlyTable c (left c)
+  emptied = freed-only (depth c) c (frames c)
+
   -- where it writes behind the freed frames
   return-moves : Moved (invocations c) (invocations c - 1) (left c) (returned c)
   unfolding returned
   return-moves =
       let g : ControlFacts c = facts in
       moved (invocations c) (invocations c - 1) (left c) (clear-only (left c) (invocations c)) (omega arith) (omega arith)
-      (omega arith) (freed-valid (depth c) c (frames c) ∙ valid)
-
-  -- the length stays
-  pub length-returned : length (returned c) ≡ length c
-  length-returned = return-moves .size ∙ length-freed (depth c) c (frames c)
+      (omega arith) (table-valid emptied ∙ valid)
 
   -- the frame count stays
   pub returned-frames : frames (returned c) ≡ frames c
-  returned-frames = return-moves .count ∙ freed-frames (depth c) c (frames c)
+  returned-frames = return-moves .count ∙ table-frames emptied
 
   -- one invocation less is live
   pub returned-invocations : invocations (returned c) ≡ invocations c - 1
@@ -148,7 +129,7 @@ module _ (c : List ℕ) (valid : controlValid c ≡ true) (above : 1 < invocatio
   returned-valid = return-moves .valid
 
   -- an entry is zeros where it leaves, else as it was
-  pub returned-entry : (i : ℕ) → i < frames c → frameEntryOf (returned c) i ≡ pick (leaves (depth c) (frameEntryOf c i)) zeroEntry (frameEntryOf c i)
+  pub returned-entry : (i : ℕ) → i < frames c → frameEntryOf (returned c) i ≡ afterwards (depth c) (frameEntryOf c i)
   returned-entry i h = return-moves .entry i ∙ freed-entry (depth c) c (frames c) i h (omega (arith, facts .size))
 
   -- every copy keeps its frame
@@ -158,8 +139,4 @@ module _ (c : List ℕ) (valid : controlValid c ≡ true) (above : 1 < invocatio
 
   -- every record of an invocation that stays live stays: its program and sizes
   pub returned-invocation : (j : ℕ) → j < invocations c → invocationOf (returned c) j ≡ invocationOf c j
-  returned-invocation j h = return-moves .invocation j (omega arith) ∙ freed-invocation (depth c) c (frames c) j (omega (arith, facts .few-live))
-
-  -- its registers
-  pub returned-registers : (j : ℕ) → j < invocations c → registersOf (returned c) j ≡ registersOf c j
-  returned-registers j h = return-moves .registers j (omega arith) ∙ freed-registers (depth c) c (frames c) j (omega (arith, facts .few-live))
+  returned-invocation j h = return-moves .invocation j (omega arith) ∙ table-invocation emptied j (omega (arith, facts .few-live))

@@ -8,12 +8,12 @@ use mathlib.Core.List.{List}
 use native.Mathlib.Nat.{zero-add}
 use native.Mathlib.Omega.{arith}
 use lib.ListN.{length}
+use Rattle.layout.specs.Control.{shadowAt, stackAt, heapAt, tableAt}
 use Rattle.words.specs.Words.{wordAt, wordBytes, splice, zeros}
 use Rattle.words.proofs.Splice.{length-splice}
 use Rattle.words.proofs.Word.{word-in, word-behind, word-zeros, word-same, length-wordBytes}
 use Rattle.words.proofs.Run.{length-zeros}
-use Rattle.snapshot.specs.declared.accounts.Account.{Account}
-use Rattle.control.specs.Control.{shadowAt, tableAt, frames, invocations, invocationOf, current, controlValid, currentValid}
+use Rattle.control.specs.Control.{frames, invocations, recordAt, invocationOf, current, controlValid, currentValid}
 use Rattle.control.specs.declared.shadow.Invocation.{Invocation}
 use Rattle.control.proofs.Facts.{control-valid, current-valid}
 use Rattle.control.proofs.Kept.{Only, Apart, only-splice, word-kept}
@@ -22,12 +22,13 @@ use Rattle.frames.specs.Table.{frameEntryAt, frameField, frameEntryOf, zeroEntr
 use Rattle.frames.specs.declared.finding.Claim.{Claim}
 use Rattle.frames.proofs.Claims.{free-claims}
 use Rattle.invoke.specs.Invoke.{framesIn, roomValid, headerBytes, fresh}
+use Rattle.invoke.specs.declared.begin.Start.{Start}
 use Rattle.invoke.proofs.Accepted.{RoomFacts, room-facts}
 
 -- ---- the header's bytes
 
 -- they are sixteen
-length-headerBytes : (f d : ℕ) → length (headerBytes f d) ≡ 16
+length-headerBytes : (f d : ℕ) → length (headerBytes f d) ≡ shadowAt
 unfolding headerBytes wordBytes
 length-headerBytes f d = refl
 
@@ -45,10 +46,10 @@ abbrev base : ℕ → List ℕ
 base size = splice (zeros size) 0 (headerBytes (framesIn size) 1)
 
 -- what a program that begins has
-abbrev pub starts : Account → Invocation
-starts a = record { program = a; stack = 0; heap = 0 }
+abbrev pub starts : Start → Invocation
+starts x = record { program = x .program; stack = 0; heap = 0 }
 
-module _ (size pool : ℕ) (a : Account) (valid : roomValid size pool ≡ true) (fits : a .0 < 65536) where
+module _ (size pool : ℕ) (x : Start) (valid : roomValid size pool ≡ true) (fits : x .program .0 < 65536) where
   -- the lengths, by name
   room : RoomFacts size pool
   room = room-facts size pool valid
@@ -58,26 +59,26 @@ module _ (size pool : ℕ) (a : Account) (valid : roomValid size pool ≡ true) 
   length-base = length-splice (zeros size) 0 (headerBytes (framesIn size) 1) ∙ length-zeros size
 
   -- the program is put into it
-  program-only : Only 280 282 (base size) (fresh size a)
+  program-only : Only (recordAt 1) (recordAt 1 + stackAt) (base size) (fresh size x)
   unfolding fresh
-  program-only = only-splice 280 282 (base size) 280 (wordBytes 2 (a .0)) (omega arith) (omega (arith, length-wordBytes 2 (a .0)))
+  program-only = only-splice (recordAt 1) (recordAt 1 + stackAt) (base size) (recordAt 1) (wordBytes 2 (x .program .0)) (omega arith) (omega (arith, length-wordBytes 2 (x .program .0)))
 
   -- a word of the header
-  header-word : (o : ℕ) → o + 4 ≤ 16 → wordAt 4 (fresh size a) o ≡ wordAt 4 (headerBytes (framesIn size) 1) o
+  header-word : (o : ℕ) → o + 4 ≤ shadowAt → wordAt 4 (fresh size x) o ≡ wordAt 4 (headerBytes (framesIn size) 1) o
   header-word o h =
-      let l : length (headerBytes (framesIn size) 1) ≡ 16 = length-headerBytes (framesIn size) 1 in
+      let l : length (headerBytes (framesIn size) 1) ≡ shadowAt = length-headerBytes (framesIn size) 1 in
       word-kept program-only 4 o (inl (omega arith))
       ∙ rw zero-add at (word-in 4 (zeros size) 0 (headerBytes (framesIn size) 1) o (omega arith) (omega (arith, length-zeros size, room .header)))
 
   -- the four words
-  words : (frames (fresh size a) ≡ framesIn size) × (invocations (fresh size a) ≡ 1)
-      × (wordAt 4 (fresh size a) 8 ≡ shadowAt) × (wordAt 4 (fresh size a) 12 ≡ tableAt)
+  words : (frames (fresh size x) ≡ framesIn size) × (invocations (fresh size x) ≡ 1)
+      × (wordAt 4 (fresh size x) 8 ≡ shadowAt) × (wordAt 4 (fresh size x) 12 ≡ tableAt)
   words =
       let h = header-read (framesIn size) 1 (omega (arith, room .few-frames)) (omega arith) in
       (header-word 0 (omega arith) ∙ h .0, header-word 4 (omega arith) ∙ h .1, header-word 8 (omega arith) ∙ h .2, header-word 12 (omega arith) ∙ h .3)
 
   -- every word behind the header but the program's is 0
-  pub fresh-zero : (w j : ℕ) → shadowAt ≤ j → Apart 280 282 w j → wordAt w (fresh size a) j ≡ 0
+  fresh-zero : (w j : ℕ) → shadowAt ≤ j → Apart (recordAt 1) (recordAt 1 + stackAt) w j → wordAt w (fresh size x) j ≡ 0
   fresh-zero w j h apart =
       word-kept program-only w j apart
       ∙ word-behind w (zeros size) 0 (headerBytes (framesIn size) 1) j (omega (arith, length-headerBytes (framesIn size) 1))
@@ -86,24 +87,24 @@ module _ (size pool : ℕ) (a : Account) (valid : roomValid size pool ≡ true) 
   -- ---- length, header, current invocation
 
   -- it is as long as asked
-  pub length-fresh : length (fresh size a) ≡ size
+  pub length-fresh : length (fresh size x) ≡ size
   length-fresh = program-only .size ∙ length-base
 
   -- it has as many frames as there is room for
-  pub fresh-frames : frames (fresh size a) ≡ framesIn size
+  pub fresh-frames : frames (fresh size x) ≡ framesIn size
   fresh-frames = words .0
 
   -- one invocation is live
-  pub fresh-invocations : invocations (fresh size a) ≡ 1
+  pub fresh-invocations : invocations (fresh size x) ≡ 1
   fresh-invocations = words .1
 
   -- it is valid
-  pub fresh-valid : controlValid (fresh size a) ≡ true
+  pub fresh-valid : controlValid (fresh size x) ≡ true
   fresh-valid =
-      let l : length (fresh size a) ≡ size = length-fresh in
+      let l : length (fresh size x) ≡ size = length-fresh in
       let w = words in
       let r : RoomFacts size pool = room in
-      control-valid (fresh size a)
+      control-valid (fresh size x)
       (record {
         header = omega arith;
         few-frames = omega arith;
@@ -115,44 +116,44 @@ module _ (size pool : ℕ) (a : Account) (valid : roomValid size pool ≡ true) 
       })
 
   -- the program's word
-  program-word : wordAt 2 (fresh size a) 280 ≡ a .0
+  program-word : wordAt 2 (fresh size x) (recordAt 1) ≡ x .program .0
   unfolding fresh
-  program-word = word-same 2 (base size) 280 (a .0) fits (omega (arith, length-base, room .header))
+  program-word = word-same 2 (base size) (recordAt 1) (x .program .0) fits (omega (arith, length-base, room .header))
 
   -- its record has the program and no pages
-  pub fresh-invocation : invocationOf (fresh size a) 1 ≡ starts a
+  pub fresh-invocation : invocationOf (fresh size x) 1 ≡ starts x
   fresh-invocation =
       sym
-      (invocation-is (fresh size a) 1 280 (a .0) 0 0 refl (sym program-word) (sym (fresh-zero 2 282 (omega arith) (inr (omega arith))))
-      (sym (fresh-zero 2 284 (omega arith) (inr (omega arith)))))
+      (invocation-is (fresh size x) 1 (recordAt 1) (x .program .0) 0 0 refl (sym program-word) (sym (fresh-zero 2 (recordAt 1 + stackAt) (omega arith) (inr (omega arith))))
+      (sym (fresh-zero 2 (recordAt 1 + heapAt) (omega arith) (inr (omega arith)))))
 
   -- that is the current invocation
-  pub fresh-current : current (fresh size a) ≡ starts a
+  pub fresh-current : current (fresh size x) ≡ starts x
   fresh-current = rw fresh-invocations fresh-invocation
 
   -- which is valid where the program is below the account count
-  pub fresh-current-valid : (n : ℕ) → a .0 < n → currentValid (fresh size a) n ≡ true
+  pub fresh-current-valid : (n : ℕ) → x .program .0 < n → currentValid (fresh size x) n ≡ true
   fresh-current-valid n l =
-      current-valid (fresh size a) n
+      current-valid (fresh size x) n
       (record { program-known = rw fresh-current l; few-stack = rw fresh-current (omega arith); few-heap = rw fresh-current (omega arith) })
 
   -- ---- the frame table
 
   module _ (i : ℕ) where
     -- every field is 0
-    field-zero : (w o : ℕ) → frameField w o (fresh size a) i ≡ 0
+    field-zero : (w o : ℕ) → frameField w o (fresh size x) i ≡ 0
     unfolding frameField
     field-zero w o = fresh-zero w (frameEntryAt i + o) (omega arith) (inr (omega arith))
 
     -- every entry is zeros
-    pub fresh-entry : frameEntryOf (fresh size a) i ≡ zeroEntry
+    pub fresh-entry : frameEntryOf (fresh size x) i ≡ zeroEntry
     fresh-entry = rw (field-zero 1 0, field-zero 1 1, field-zero 2 2, field-zero 2 4, field-zero 2 6)
 
     -- it is free
-    pub fresh-free : isFree (fresh size a) i ≡ true
+    pub fresh-free : isFree (fresh size x) i ≡ true
     unfolding isFree
     fresh-free = rw (field-zero 1 0)
 
     -- it claims nothing
-    pub fresh-claims : (q : Claim) → claims (fresh size a) q i ≡ false
-    fresh-claims q = free-claims (fresh size a) i fresh-free q
+    pub fresh-claims : (q : Claim) → claims (fresh size x) q i ≡ false
+    fresh-claims q = free-claims (fresh size x) i fresh-free q

@@ -4,24 +4,27 @@ use mathlib.Core.Bool.{Bool}
 use mathlib.Core.List.{List, _++_}
 use lib.ListN.{length}
 use lib.Dec.{ltb, leb, eqb}
+use Rattle.layout.specs.Page.{poolLength}
+use Rattle.layout.specs.Control.{shadowAt, tableAt, frameEntrySize, frameLimit, liveLimit, registersSize, controlLength}
 use Rattle.words.specs.Words.{wordBytes, splice, zeros}
 use Rattle.choice.specs.Choice.{pick, both, either}
 use Rattle.refusal.specs.Checks.{need, _then_, checkNumber, orKeep}
 use Rattle.refusal.specs.declared.Check.{Check}
 use Rattle.refusal.specs.declared.Refusal.the-variants.{Invalid, BadRequest, NoSegment, DepthLimit}
 use Rattle.snapshot.specs.Header.{snapshotValid}
-use Rattle.snapshot.specs.Accounts.{known, entryOf, entryValid, exists}
+use Rattle.snapshot.specs.Accounts.{entryOf, exists}
+use Rattle.snapshot.specs.Lookup.{accountCheck}
 use Rattle.snapshot.specs.declared.accounts.Account.{Account}
-use Rattle.control.specs.Control.{shadowAt, tableAt, frameEntrySize, frameLimit, liveLimit, registersSize, controlLength, poolLength, frames, invocations, depth, setInvocations, recordAt, current, putInvocation, clearInvocation, registersOf, buffersValid}
+use Rattle.control.specs.Control.{frames, invocations, depth, setInvocations, recordAt, current, putInvocation, clearInvocation, registersOf, buffersValid}
 use Rattle.control.specs.declared.shadow.Region.the-variants.{Stack, Heap}
 use Rattle.frames.specs.Table.{frameEntryOf, freeFrameEntry, usageOf}
 use Rattle.frames.specs.declared.table.FrameEntry.{FrameEntry}
+use Rattle.invoke.specs.declared.begin.Start.{Start}
 
 -- "4 (not below A), 1 (entry unfit), 4 (does not exist)"
 unfoldable pub programCheck : List ℕ → Account → Check
 programCheck s a =
-    need (known s a) NoSegment
-    then need (entryValid s a) Invalid
+    accountCheck s a
     then need (exists (entryOf s a)) NoSegment
 
 -- ---- begin
@@ -38,24 +41,24 @@ roomValid control pool =
     (both (eqb control (controlLength (framesIn control))) (eqb pool (poolLength (framesIn control)))))
 
 -- "Order: 1 (ground; ledger length ..; pool ..), 4 (not below A), 1 (entry unfit), 4 (does not exist)"
-unfoldable pub beginCheck : List ℕ → ℕ → ℕ → Account → Check
-beginCheck s control pool a = need (both (snapshotValid s) (roomValid control pool)) Invalid then programCheck s a
+unfoldable pub beginCheck : List ℕ → ℕ → ℕ → Start → Check
+beginCheck s control pool x = need (both (snapshotValid s) (roomValid control pool)) Invalid then programCheck s (x .program)
 
 -- "Header of four u32: frame count F, live invocations D, offset of shadow frames (16), offset of the frame table (4,504)"
 unfoldable pub headerBytes : ℕ → ℕ → List ℕ
 headerBytes f d = wordBytes 4 f ++ (wordBytes 4 d ++ (wordBytes 4 shadowAt ++ wordBytes 4 tableAt))
 
 -- "It writes the whole ledger: header with D=1, frame 1 with that program and no pages, zeros elsewhere."
-unfoldable pub fresh : ℕ → Account → List ℕ
-fresh size a = splice (splice (zeros size) 0 (headerBytes (framesIn size) 1)) (recordAt 1) (wordBytes 2 (a .0))
+unfoldable pub fresh : ℕ → Start → List ℕ
+fresh size x = splice (splice (zeros size) 0 (headerBytes (framesIn size) 1)) (recordAt 1) (wordBytes 2 (x .program .0))
 
 -- begin's number
-unfoldable pub beginNumber : List ℕ → List ℕ → List ℕ → Account → ℕ
-beginNumber s c p a = checkNumber (beginCheck s (length c) (length p) a)
+unfoldable pub beginNumber : List ℕ → List ℕ → List ℕ → Start → ℕ
+beginNumber s c p x = checkNumber (beginCheck s (length c) (length p) x)
 
 -- the control block after begin; "Pool stays."
-unfoldable pub beginControl : List ℕ → List ℕ → List ℕ → Account → List ℕ
-beginControl s c p a = orKeep (beginCheck s (length c) (length p) a) c (fresh (length c) a)
+unfoldable pub beginControl : List ℕ → List ℕ → List ℕ → Start → List ℕ
+beginControl s c p x = orKeep (beginCheck s (length c) (length p) x) c (fresh (length c) x)
 
 -- ---- call
 

@@ -1,20 +1,22 @@
 // Call and return.
 use super::program::program_check;
 use control::buffers::buffers_valid;
-use control::header::ENTRY;
-use control::header::INVOCATIONS;
-use control::header::TABLE_AT;
 use control::header::frame_count;
 use control::header::invocation_count;
 use control::header::set_invocations;
 use control::shadow::Invocation;
-use control::shadow::REGISTERS;
 use control::shadow::clear_invocation;
 use control::shadow::invocation_at;
 use control::shadow::put_invocation;
 use control::shadow::read_registers;
-use frames::table::Frame;
+use frames::table::entry_at;
 use frames::table::free_frame_entry;
+use frames::table::usage_at;
+use layout::control::HEAP;
+use layout::control::INVOCATIONS;
+use layout::control::REGISTERS;
+use layout::control::STACK;
+use pages::Frame;
 use refusal::Check;
 use refusal::DONE;
 use refusal::Refusal;
@@ -24,6 +26,7 @@ ghost use mathlib.Core.Path.{_≡_};
 ghost use mathlib.Core.Bool.{true};
 ghost use Prim.Native.Nat.{_≤_, _<_};
 ghost use lib.ListN.{length};
+ghost use Rattle.layout.specs.Control.{frameLimit};
 ghost use Rattle.control.specs.Control.{controlValid, frames};
 ghost use Rattle.frames.specs.Table.{frameEntryOf, entryEnd};
 ghost use Rattle.invoke.specs.Invoke.{callCheck, callNumber, callControl, returnCheck, returnNumber, returnControl, returnOut, leaves, freedBelow};
@@ -85,18 +88,17 @@ fn return_check(s: &[u8], c: &[u8], pool: &[u8], size: usize) -> Check
     Check::Stop(Refusal::Invalid)
 }
 
-// Whether entry i is a stack or heap frame whose tag is at or above the depth.
+// Whether entry i is a stack or heap frame's, with a tag at or above the depth.
 fn leaves_at(c: &[u8], i: usize, depth: usize) -> bool
-    requires { ⌜ (i < 1024) × (entryEnd i ≤ length (now c)) ⌝ }
+    requires { ⌜ entryEnd i ≤ length (now c) ⌝ }
     ensures { λ r. ⌜ r ≡ leaves depth (frameEntryOf (now (c .entry)) i) ⌝ }
 {
-    let at = TABLE_AT + ENTRY * i;
-    let usage = c[at];
-    if usage == 2 {
-        return depth <= c[at + 1] as usize;
+    let usage = usage_at(c, i);
+    if usage == STACK {
+        return depth <= entry_at(c, i).tag as usize;
     }
-    if usage == 3 {
-        return depth <= c[at + 1] as usize;
+    if usage == HEAP {
+        return depth <= entry_at(c, i).tag as usize;
     }
     false
 }

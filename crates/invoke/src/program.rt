@@ -2,8 +2,8 @@
 use refusal::Check;
 use refusal::Refusal;
 use snapshot::accounts::Account;
-use snapshot::accounts::whole_account_entry;
-use snapshot::header::whole_header;
+use snapshot::lookup::Lookup;
+use snapshot::lookup::look_up;
 ghost use mathlib.Core.Path.{_≡_};
 ghost use mathlib.Core.Bool.{true};
 ghost use Rattle.snapshot.specs.Header.{snapshotValid};
@@ -14,16 +14,13 @@ pub fn program_check(s: &[u8], a: Account) -> Check
     requires { ⌜ snapshotValid (now s) ≡ true ⌝ }
     ensures { λ r. ⌜ r ≡ programCheck (now (s .entry)) a ⌝ }
 {
-    let h = whole_header(s);
-    if (a.0 as usize) < h.accounts {
-        let e = whole_account_entry(s, a);
-        if e.valid(h.data_at, h.total) {
+    match look_up(s, a) {
+        Lookup::Valid(e) => {
             if e.exists() {
                 return Check::Pass;
             }
-            return Check::Stop(Refusal::NoSegment);
+            Check::Stop(Refusal::NoSegment)
         }
-        return Check::Stop(Refusal::Invalid);
+        Lookup::Refused(r) => Check::Stop(r),
     }
-    Check::Stop(Refusal::NoSegment)
 }

@@ -7,20 +7,21 @@ use mathlib.Core.List.{List}
 use native.Mathlib.Omega.{arith}
 use lib.Dec.{eqb}
 use borrow.Author.Tests.{eqb-true, eq-eqb, ne-eqb}
+use Rattle.layout.specs.Control.{usageCopy}
 use Rattle.choice.specs.Choice.{either}
 use Rattle.choice.proofs.Counting.{count-ext}
-use Rattle.control.specs.Control.{frames}
+use Rattle.choice.proofs.Paired.{Paired, count-paired, count-all, count-either}
+use Rattle.control.specs.Control.{frames, sizeOf}
 use Rattle.control.specs.declared.shadow.Region.{Region}
 use Rattle.control.specs.declared.shadow.Region.the-variants.{Stack, Heap}
-use Rattle.frames.specs.Table.{frameEntryOf, usageCopy, usageOf, isFree}
+use Rattle.frames.specs.Table.{frameEntryOf, usageOf, isFree}
 use Rattle.frames.proofs.Claims.{claims-page}
-use Rattle.lifecycle.specs.Regions.{sizeNow, holdsPage, HeldOnce, OfPage, RegionRight, Rights, framesWith, framesOf, framesOfCopies, framesInUse}
+use Rattle.lifecycle.specs.Regions.{holdsPage, HeldOnce, OfPage, RegionHeld, Rights, framesWith, framesOf, framesOfCopies, framesInUse}
 use Rattle.lifecycle.proofs.Moves.{one-page}
-use Rattle.lifecycle.proofs.Paired.{Paired, count-paired, count-all, count-either}
 
 -- a region's frames are paired with its pages
-region-paired : (c : List ℕ) (r : Region) → RegionRight c r
-    → Paired (λ i. eqb (frameEntryOf c i .usage) (usageOf r)) (λ k. true) (holdsPage c r) (frames c) (sizeNow c r)
+region-paired : (c : List ℕ) (r : Region) → RegionHeld c r
+    → Paired (λ i. eqb (frameEntryOf c i .usage) (usageOf r)) (λ k. true) (holdsPage c r) (frames c) (sizeOf c r)
 region-paired c r h =
     record {
       one = λ k l e. let o : HeldOnce c r k = h .held k l in record { at = o .frame; below = o .below; passes = o .claimed; only = o .only };
@@ -32,9 +33,9 @@ region-paired c r h =
     }
 
 -- so they are as many
-pub counted : (c : List ℕ) (r : Region) → RegionRight c r → framesOf c r ≡ sizeNow c r
+pub counted : (c : List ℕ) (r : Region) → RegionHeld c r → framesOf c r ≡ sizeOf c r
 unfolding framesWith
-counted c r h = count-paired (region-paired c r h) ∙ count-all (sizeNow c r)
+counted c r h = count-paired (region-paired c r h) ∙ count-all (sizeOf c r)
 
 -- ---- the frames in use
 
@@ -61,5 +62,5 @@ in-use c h =
     omega (arith, regions, all, count-ext (λ i. not (eqb (u i) 0)) _ (frames c) (λ i l. uses (u i) (h .few i l)))
 
 -- so they are those of copies and as many as both regions have pages
-pub in-use-pages : (c : List ℕ) → Rights c → framesInUse c ≡ framesOfCopies c + (sizeNow c Stack + sizeNow c Heap)
-in-use-pages c h = rw (← counted c Stack (h .each Stack), ← counted c Heap (h .each Heap)) (in-use c h)
+pub in-use-pages : (c : List ℕ) → Rights c → framesInUse c ≡ framesOfCopies c + (sizeOf c Stack + sizeOf c Heap)
+in-use-pages c h = rw (← counted c Stack (h .held Stack), ← counted c Heap (h .held Heap)) (in-use c h)

@@ -6,9 +6,9 @@ use native.Mathlib.Decide.{decLt}
 use native.Mathlib.Omega.{arith}
 use borrow.Author.Tests.{ltb-true, ltb-false, lt-ltb, le-ltb}
 use Rattle.choice.proofs.Lowest.{lowest-hits, lowest-misses, lowest-is}
-use Rattle.control.specs.Control.{invocations}
+use Rattle.control.specs.Control.{invocations, sizeIn}
 use Rattle.control.specs.declared.shadow.Region.{Region}
-use Rattle.lifecycle.specs.Regions.{sizeIn, reaches, grownAt}
+use Rattle.lifecycle.specs.Regions.{reaches, grownAt}
 
 module _ (c : List ℕ) (r : Region) (k : ℕ) where
   -- no size at a lesser depth reaches above the page

@@ -1,10 +1,11 @@
 pub mod Depths
 pub mod Moves
+pub mod Tagged
 pub mod Begun
 pub mod Copied
-pub mod Paired
 pub mod Counted
 pub mod Called
+pub mod Returned
 pub mod Sized
 pub mod Growing
 pub mod Shrinking

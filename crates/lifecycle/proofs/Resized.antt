@@ -6,15 +6,16 @@ use mathlib.Core.List.{List}
 use native.Mathlib.Omega.{arith}
 use lib.Dec.{ltb}
 use borrow.Author.Tests.{leb-true, ltb-true}
+use Rattle.layout.specs.Page.{pageLimit}
 use Rattle.choice.proofs.Tests.{by-test}
 use Rattle.refusal.specs.Checks.{orKeep}
 use Rattle.refusal.specs.declared.Check.{Check}
 use Rattle.refusal.specs.declared.Check.the-variants.{Pass, Stop}
 use Rattle.refusal.proofs.Checks.{need-then, need-pass}
-use Rattle.control.specs.Control.{pageLimit}
+use Rattle.control.specs.Control.{sizeOf}
 use Rattle.control.specs.declared.shadow.Region.{Region}
 use Rattle.control.proofs.Facts.{BuffersFacts, buffers-facts}
-use Rattle.regions.specs.Resize.{sizeOf, growCheck, shrinkCheck, growTo, shrinkControl, resizeTo, resizeCheck, regionOf}
+use Rattle.regions.specs.Resize.{growCheck, shrinkCheck, growTo, shrinkControl, resizeTo, resizeCheck, regionOf}
 use Rattle.lifecycle.specs.Regions.{Rights}
 use Rattle.lifecycle.proofs.Growing.{grown-right}
 use Rattle.lifecycle.proofs.Shrinking.{shrunk-right}
@@ -36,7 +37,7 @@ module _ (s c p : List ℕ) (code n : ℕ) (accepted : resizeCheck s c p code n 
   resize-most = leb-true _ _ (need-pass _ _ (need-then _ _ _ (need-then _ _ _ accepted .1) .1))
 
   -- both regions stay right
-  pub resized-right : Rights c → Rights (resizeTo c p (regionOf code) n .control)
+  pub resized-right : Rights c → Rights (resizeTo c p (regionOf code) n .after .control)
   unfolding resizeTo growTo shrinkControl
   resized-right h =
       let r : Region = regionOf code in

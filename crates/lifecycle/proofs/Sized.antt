@@ -1,26 +1,29 @@
--- A control block c with another frame table, g, and then another size n of region r: what its records read, and that the other region
--- stays right. Assumes nothing.
+-- A control block c with another frame table, g, and then another size n of region r: what its records read, that the other region stays right,
+-- and what becomes of the sizes and depths of this one. Assumes nothing.
 use Prim.Native.Nat.{ℕ, suc, _+_, _-_, _≤_, _<_}
 use mathlib.Core.Path.{_≡_, sym, ap, _∙_}
 use mathlib.Core.Bool.{true}
-use mathlib.Core.Logic.{_≢_, _⊎_, inl, inr, ⊎-elim}
+use mathlib.Core.Logic.{_≢_}
 use mathlib.Core.List.{List}
 use native.Mathlib.Decide.{ℕ-discrete}
 use native.Mathlib.Omega.{arith}
 use lib.Dec.{ltb}
 use borrow.Author.Tests.{lt-ltb}
-use Rattle.control.specs.Control.{pageLimit, frames, invocations, pagesOf, controlValid}
+use Rattle.layout.specs.Control.{liveLimit}
+use Rattle.layout.specs.Page.{pageLimit}
+use Rattle.control.specs.Control.{frames, invocations, pagesOf, controlValid, sizeOf, sizeIn}
 use Rattle.control.specs.declared.shadow.Region.{Region}
 use Rattle.control.specs.declared.shadow.Region.the-variants.{Stack, Heap}
 use Rattle.control.specs.declared.shadow.Invocation.{Invocation}
 use Rattle.control.proofs.Facts.{ControlFacts, control-facts}
 use Rattle.control.proofs.Records.{OnlyRecord, invocation-other, header-kept, table-kept, pages-only, pages-other, pages-same}
 use Rattle.frames.specs.Table.{frameEntryAt, frameField, frameEntryOf, usageOf}
+use Rattle.frames.proofs.OnlyTable.{OnlyTable, table-frames, table-invocations, table-invocation}
 use Rattle.regions.specs.Resize.{sized}
-use Rattle.regions.proofs.OnlyTable.{OnlyTable, table-frames, table-invocations, table-invocation}
-use Rattle.lifecycle.specs.Regions.{sizeIn, sizeNow, grownAt, RegionRight}
+use Rattle.lifecycle.specs.Regions.{grownAt, Rise, RegionHeld, RegionTagged, Rights}
 use Rattle.lifecycle.proofs.Depths.{grown-le, grown-kept}
-use Rattle.lifecycle.proofs.Moves.{usage-same, Foreign, untouched-right}
+use Rattle.lifecycle.proofs.Moves.{Untouched, Same, same-held}
+use Rattle.lifecycle.proofs.Tagged.{Repeats, no-further, repeats-tagged}
 
 -- x is c with the entries of g and n pages of the region
 pub record Sized (c g x : List ℕ) (r : Region) (n : ℕ) : Type 0 where
@@ -29,8 +32,8 @@ pub record Sized (c g x : List ℕ) (r : Region) (n : ℕ) : Type 0 where
   pub count : frames x ≡ frames c
   pub entry : (i : ℕ) → frameEntryOf x i ≡ frameEntryOf g i
   pub before : (q : Region) (j : ℕ) → j < invocations c → sizeIn x q j ≡ sizeIn c q j
-  pub now : sizeNow x r ≡ n
-  pub other : (q : Region) → q ≢ r → sizeNow x q ≡ sizeNow c q
+  pub now : sizeOf x r ≡ n
+  pub other : (q : Region) → q ≢ r → sizeOf x q ≡ sizeOf c q
 
 -- ---- the size written
 
@@ -44,7 +47,7 @@ module _ (c g : List ℕ) (r : Region) (n : ℕ) (valid : controlValid c ≡ tru
   size-live = header-kept (invocations g) record-only 4 4 (omega arith)
 
   -- a field of an entry stays
-  field-sized : (w f i : ℕ) → invocations g ≤ 16 → frameField w f (sized g r n) i ≡ frameField w f g i
+  field-sized : (w f i : ℕ) → invocations g ≤ liveLimit → frameField w f (sized g r n) i ≡ frameField w f g i
   unfolding frameField
   field-sized w f i l = table-kept (invocations g) record-only l w (frameEntryAt i + f) (omega arith)
 
@@ -53,7 +56,7 @@ module _ (c g : List ℕ) (r : Region) (n : ℕ) (valid : controlValid c ≡ tru
   sized-is =
       let f : ControlFacts c = control-facts c valid in
       let e : invocations g ≡ invocations c = table-invocations o in
-      let l : invocations g ≤ 16 = omega arith in
+      let l : invocations g ≤ liveLimit = omega arith in
       record {
         some = f .some-live;
         live = size-live ∙ e;
@@ -78,9 +81,34 @@ by-region Heap y n Stack = n Stack (λ e. omega (arith, ap usageOf e))
 by-region Heap y n Heap = y
 
 module _ {c g x : List ℕ} {r : Region} {n : ℕ} (s : Sized c g x r n) where
+  -- the other region's size and entries stay
+  other-same : (q : Region) → q ≢ r → ((i : ℕ) → i < frames c → Untouched c x q i) → Same c x q
+  other-same q d entry = record { count = s .count; size = s .other q d; entry = entry }
+
+  -- and all its sizes
+  other-repeats : (q : Region) → q ≢ r → Repeats c x q
+  other-repeats q d =
+      no-further (s .some) (s .live)
+      (λ j l.
+      elim (ℕ-discrete j (invocations c)) [
+        | yes e ↦ rw e (rw (s .live) at (s .other q d))
+        | no z ↦ s .before q j (omega arith)
+      ])
+
+  -- both regions are right where this one is, and the other's entries stay
+  pub sized-right : RegionHeld x r → RegionTagged x r → ((q : Region) → q ≢ r → (i : ℕ) → i < frames c → Untouched c x q i)
+      → ((i : ℕ) → i < frames c → frameEntryOf x i .usage ≤ usageOf Heap) → Rights c → Rights x
+  sized-right held tagged entry few h =
+      record {
+        held = by-region r held (λ q d. same-held (other-same q d (entry q d)) (h .held q));
+        tagged = by-region r tagged (λ q d. repeats-tagged (other-repeats q d) (other-same q d (entry q d)) (h .tagged q));
+        few = λ i l. few i (rw (s .count) at l);
+      }
+
+  -- ---- tags and sizes
+
   -- sizes never fall, where none before is above the size written
-  pub sized-rise : RegionRight c r → ((i : ℕ) → 1 ≤ i → i < invocations c → sizeIn c r i ≤ n)
-      → (i j : ℕ) → 1 ≤ i → i ≤ j → j ≤ invocations x → sizeIn x r i ≤ sizeIn x r j
+  pub sized-rise : Rise c r → ((i : ℕ) → 1 ≤ i → i < invocations c → sizeIn c r i ≤ n) → Rise x r
   sized-rise h most i j some l few =
       elim (ℕ-discrete j (invocations x)) [
         | yes e ↦
@@ -88,11 +116,11 @@ module _ {c g x : List ℕ} {r : Region} {n : ℕ} (s : Sized c g x r n) where
               | yes z ↦ rw z (omega arith)
               | no z ↦ rw e (omega (arith, s .before r i (omega arith), most i some (omega arith)))
             ]
-        | no d ↦ omega (arith, s .before r i (omega arith), s .before r j (omega arith), h .rise i j some l (omega arith))
+        | no d ↦ omega (arith, s .before r i (omega arith), s .before r j (omega arith), h i j some l (omega arith))
       ]
 
   -- a page within the old size and the new keeps its depth
-  pub sized-depth : (k : ℕ) → k < n → k < sizeNow c r → grownAt x r k ≡ grownAt c r k
+  pub sized-depth : (k : ℕ) → k < n → k < sizeOf c r → grownAt x r k ≡ grownAt c r k
   sized-depth k b l =
       let last : suc (invocations c - 1) ≡ invocations c = omega arith in
       let below : grownAt c r k ≤ invocations c - 1 = grown-le c r k (invocations c - 1) (rw last l) in
@@ -101,20 +129,6 @@ module _ {c g x : List ℕ} {r : Region} {n : ℕ} (s : Sized c g x r n) where
       elim (ℕ-discrete j (invocations c - 1)) [
         | yes e ↦
             let now : sizeIn x r (invocations c) ≡ n = rw (s .live) at (s .now) in
-            rw (e, last) (lt-ltb k (sizeIn x r (invocations c)) (omega arith) ∙ sym (lt-ltb k (sizeNow c r) l))
+            rw (e, last) (lt-ltb k (sizeIn x r (invocations c)) (omega arith) ∙ sym (lt-ltb k (sizeOf c r) l))
         | no d ↦ ap (λ (y : ℕ). ltb k y) (s .before r (suc j) (omega arith))
       ])
-
-  -- the other region stays right where its entries do
-  pub other-right : (q : Region) → q ≢ r → ((i : ℕ) → i < frames c → (frameEntryOf g i ≡ frameEntryOf c i) ⊎ Foreign c g q i)
-      → RegionRight c q → RegionRight x q
-  other-right q d entry =
-      untouched-right c x q (s .some) (s .live) (s .count)
-      (λ j l.
-      elim (ℕ-discrete j (invocations c)) [
-        | yes e ↦ rw e (rw (s .live) at (s .other q d))
-        | no z ↦ s .before q j (omega arith)
-      ])
-      (λ i b.
-      ⊎-elim (λ e. inl (s .entry i ∙ e)) (λ f. inr (record { was = f .was; is = λ u. f .is (sym (usage-same (s .entry i)) ∙ u) }))
-      (entry i b))

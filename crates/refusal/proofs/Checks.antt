@@ -1,10 +1,15 @@
--- A chain of checks that passes: each of its tests passed. One that stops: at the first test that fails. Assumes nothing.
+-- A check passes or stops. A chain of checks that passes: each of its tests passed. One that stops: at the first test that fails. No refusal
+-- has the number 0. Assumes nothing.
 use mathlib.Core.Path.{_≡_, refl}
 use mathlib.Core.Bool.{Bool, true, false}
 use Prim.Native.Nat.{ℕ}
+use lib.Dec.{eqb}
 use native.Mathlib.Omega.{arith}
-use Rattle.refusal.specs.Checks.{need, _then_}
+use Rattle.choice.proofs.Tests.{differ}
+use Rattle.refusal.specs.Numbers.{numberOf, done}
+use Rattle.refusal.specs.Checks.{need, _then_, checkNumber}
 use Rattle.refusal.specs.declared.Refusal.{Refusal}
+use Rattle.refusal.specs.declared.Refusal.the-variants.{Invalid, BadRequest, BadAddress, Absent, NoSegment, Misaligned, Crossing, NotPermitted, NoFrame, DepthLimit, TooManyPages, ShortOutput, BadList}
 use Rattle.refusal.specs.declared.Check.{Check}
 use Rattle.refusal.specs.declared.Check.the-variants.{Pass, Stop}
 
@@ -49,3 +54,29 @@ pub need-then : (b : Bool) (r : Refusal) (d : Check) → (need b r then d) ≡ P
 need-then b r d e =
     let t : (need b r ≡ Pass) × (d ≡ Pass) = then-pass (need b r) d e in
     (need-pass b r (t .0), t .1)
+
+-- what holds where a check passes and where it stops, holds
+pub by-check {ℓ} : {A : Type ℓ} (x : Check) → (x ≡ Pass → A) → ((r : Refusal) → x ≡ Stop r → A) → A
+by-check Pass f g = f refl
+by-check (Stop r) f g = g r refl
+
+-- no refusal has the number 0
+pub refusal-number : (r : Refusal) → eqb (numberOf r) done ≡ false
+refusal-number Invalid = refl
+refusal-number BadRequest = refl
+refusal-number BadAddress = refl
+refusal-number Absent = refl
+refusal-number NoSegment = refl
+refusal-number Misaligned = refl
+refusal-number Crossing = refl
+refusal-number NotPermitted = refl
+refusal-number NoFrame = refl
+refusal-number DepthLimit = refl
+refusal-number TooManyPages = refl
+refusal-number ShortOutput = refl
+refusal-number BadList = refl
+
+-- a check with the number 0 passed
+pub check-passed : (x : Check) → eqb (checkNumber x) done ≡ true → x ≡ Pass
+check-passed Pass e = refl
+check-passed (Stop r) e = absurd (differ _ e (refusal-number r))

@@ -6,4 +6,4 @@ use Rattle.regions.specs.Resize.{Resized}
 
 -- the number n, the control block c and the pool p are what the outcome says
 abbrev pub Gives : Resized → ℕ → List ℕ → List ℕ → Type 0
-Gives o n c p = (n ≡ o .number) × ((c ≡ o .control) × (p ≡ o .pool))
+Gives o n c p = (n ≡ o .number) × ((c ≡ o .after .control) × (p ≡ o .after .pool))

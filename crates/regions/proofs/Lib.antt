@@ -1,4 +1,4 @@
-pub mod OnlyTable
+pub mod Between
 pub mod Pages
 pub mod Grown
 pub mod Shrunk

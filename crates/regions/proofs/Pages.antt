@@ -6,13 +6,15 @@ use mathlib.Core.Logic.{_≢_}
 use mathlib.Core.List.{List}
 use native.Mathlib.Omega.{arith}
 use lib.ListN.{length}
+use Rattle.layout.specs.Control.{usageCopy}
+use Rattle.layout.specs.Page.{pageLimit}
 use Rattle.snapshot.specs.declared.accounts.Account.{Account}
-use Rattle.control.specs.Control.{pageLimit, frames, controlValid}
+use Rattle.control.specs.Control.{frames, controlValid}
 use Rattle.control.specs.declared.shadow.Region.{Region}
 use Rattle.control.specs.declared.shadow.Region.the-variants.{Stack, Heap}
 use Rattle.control.proofs.Facts.{ControlFacts, control-facts}
-use Rattle.frames.specs.Table.{entryEnd, frameEntryOf, usageCopy, usageOf, holds, claims, isFree}
-use Rattle.frames.specs.declared.table.Page.{Page}
+use Rattle.pages.specs.declared.Page.{Page}
+use Rattle.frames.specs.Table.{entryEnd, frameEntryOf, usageOf, holds, claims, isFree}
 use Rattle.frames.specs.declared.table.FrameEntry.{FrameEntry}
 use Rattle.frames.specs.declared.finding.Claim.{Claim}
 use Rattle.frames.specs.declared.finding.Claim.the-variants.{Copy}

@@ -1,30 +1,30 @@
 -- Document 01, "Begin, call, return, resize": resize. Assumes nothing.
 use Prim.Native.Nat.{ℕ, zero, suc, _+_, _-_, _<_}
 use mathlib.Core.Path.{_≡_}
-use mathlib.Core.Bool.{Bool, true, false}
+use mathlib.Core.Bool.{Bool, true}
 use mathlib.Core.List.{List}
 use lib.ListN.{length, getD}
 use lib.Dec.{ltb, leb, eqb}
+use Rattle.layout.specs.Page.{pageSize, pageLimit}
 use Rattle.words.specs.Words.{splice, zeros}
-use Rattle.choice.specs.Choice.{pick, both, either}
-use Rattle.choice.specs.Search.{lowest}
+use Rattle.choice.specs.Choice.{pick, either}
+use Rattle.choice.specs.Search.{lowest, every}
+use Rattle.refusal.specs.Numbers.{done}
 use Rattle.refusal.specs.Checks.{need, _then_, checkNumber, orKeep}
 use Rattle.refusal.specs.declared.Check.{Check}
 use Rattle.refusal.specs.declared.Check.the-variants.{Pass, Stop}
 use Rattle.refusal.specs.declared.Refusal.the-variants.{Invalid, BadRequest, NotPermitted, NoFrame, TooManyPages}
-use Rattle.control.specs.Control.{pageSize, pageLimit, frames, invocations, depth, current, pagesOf, setPages, buffersValid}
+use Rattle.control.specs.Buffers.{Buffers}
+use Rattle.control.specs.Control.{frames, invocations, depth, setPages, buffersValid, sizeOf}
 use Rattle.control.specs.declared.shadow.Region.{Region}
 use Rattle.control.specs.declared.shadow.Region.the-variants.{Stack, Heap}
-use Rattle.frames.specs.Table.{frameEntryOf, putFrameEntry, freeFrameEntry, usageOf, claims, frameOf, freeFrame, freeCount, frameStart}
-use Rattle.frames.specs.declared.table.Page.{Page}
+use Rattle.pages.specs.declared.Page.{Page}
+use Rattle.pages.specs.Pages.{frameStart}
+use Rattle.frames.specs.Table.{frameEntryOf, putFrameEntry, freeFrameEntry, usageOf, claims, frameOf, freeFrame, freeCount, isFound}
 use Rattle.frames.specs.declared.table.FrameEntry.{FrameEntry}
 use Rattle.frames.specs.declared.finding.Claim.the-variants.{Anonymous}
 use Rattle.frames.specs.declared.finding.Found.{Found}
 use Rattle.frames.specs.declared.finding.Found.the-variants.{At, Nothing}
-
--- the size of a region: "n is read from frame D"
-abbrev pub sizeOf : List ℕ → Region → ℕ
-sizeOf c r = pagesOf (current c) r
 
 -- the k-th page of a region, "nearest page first": the heap from page 0 up, the stack from page 4,095 down
 abbrev pub pageAt : Region → ℕ → Page
@@ -37,13 +37,8 @@ pageAt Heap k = record { 0 = k }
 abbrev pub regionEntry : ℕ → Region → Page → FrameEntry
 regionEntry tag r q = record { usage = usageOf r; tag = tag; account = record { 0 = 0 }; page = q; zero = 0 }
 
--- both working buffers
-pub record Working : Type 0 where
-  pub control : List ℕ
-  pub pool : List ℕ
-
 -- one page more, in the frame found: its entry written and its bytes zeroed
-abbrev pub growIn : Region → Page → Working → Found → Working
+abbrev pub growIn : Region → Page → Buffers → Found → Buffers
 growIn r q w (At f) =
     record {
       control = putFrameEntry (w .control) (f .0) (regionEntry (depth (w .control)) r q);
@@ -52,11 +47,11 @@ growIn r q w (At f) =
 growIn r q w Nothing = w
 
 -- "Growing takes the lowest free frames": one page more
-unfoldable pub growOne : Region → Page → Working → Working
+unfoldable pub growOne : Region → Page → Buffers → Buffers
 growOne r q w = growIn r q w (freeFrame (w .control))
 
 -- the first n new pages, from the k-th on, each in the lowest free frame
-unfoldable pub grown : Region → ℕ → List ℕ → List ℕ → ℕ → Working
+unfoldable pub grown : Region → ℕ → List ℕ → List ℕ → ℕ → Buffers
 grown r k c p zero = record { control = c; pool = p }
 grown r k c p (suc n) = growOne r (pageAt r (k + n)) (grown r k c p n)
 
@@ -70,11 +65,6 @@ growCheck c r n = need (leb (n - sizeOf c r) (freeCount c)) NoFrame
 abbrev pub pageFrame : List ℕ → Region → ℕ → Found
 pageFrame c r k = frameOf c (Anonymous r (pageAt r k))
 
--- a frame was found
-abbrev pub isHeld : Found → Bool
-isHeld (At f) = true
-isHeld Nothing = false
-
 -- no "tag below the depth"
 abbrev pub mayLeave : List ℕ → Found → Bool
 mayLeave c (At f) = leb (depth c) (frameEntryOf c (f .0) .tag)
@@ -82,13 +72,11 @@ mayLeave c Nothing = true
 
 -- the n pages from the k-th on all have frames
 unfoldable pub allHeld : List ℕ → Region → ℕ → ℕ → Bool
-allHeld c r k zero = true
-allHeld c r k (suc n) = both (allHeld c r k n) (isHeld (pageFrame c r (k + n)))
+allHeld c r k n = every (λ i. isFound (pageFrame c r (k + i))) n
 
 -- none of them has a tag below the depth
 unfoldable pub allLeave : List ℕ → Region → ℕ → ℕ → Bool
-allLeave c r k zero = true
-allLeave c r k (suc n) = both (allLeave c r k n) (mayLeave c (pageFrame c r (k + n)))
+allLeave c r k n = every (λ i. mayLeave c (pageFrame c r (k + i))) n
 
 -- "1 if one has no frame, then 7 if one has a tag below the depth"
 unfoldable pub shrinkCheck : List ℕ → Region → ℕ → Check
@@ -112,19 +100,21 @@ shrunk c r k (suc n) = freeFound (shrunk c r k n) (pageFrame c r (k + n))
 abbrev pub sized : List ℕ → Region → ℕ → List ℕ
 sized c r n = setPages c (invocations c) r n
 
--- the number and both buffers afterwards
+-- the number, and both buffers afterwards
 pub record Resized : Type 0 where
   pub number : ℕ
-  pub control : List ℕ
-  pub pool : List ℕ
+  pub after : Buffers
 
 -- growing to n pages
 unfoldable pub growTo : List ℕ → List ℕ → Region → ℕ → Resized
 growTo c p r n =
     record {
       number = checkNumber (growCheck c r n);
-      control = orKeep (growCheck c r n) c (sized (grown r (sizeOf c r) c p (n - sizeOf c r) .control) r n);
-      pool = orKeep (growCheck c r n) p (grown r (sizeOf c r) c p (n - sizeOf c r) .pool);
+      after =
+          record {
+            control = orKeep (growCheck c r n) c (sized (grown r (sizeOf c r) c p (n - sizeOf c r) .control) r n);
+            pool = orKeep (growCheck c r n) p (grown r (sizeOf c r) c p (n - sizeOf c r) .pool);
+          };
     }
 
 -- the control block after shrinking to n pages
@@ -136,8 +126,8 @@ unfoldable pub resizeTo : List ℕ → List ℕ → Region → ℕ → Resized
 resizeTo c p r n =
     pick (ltb (sizeOf c r) n) (growTo c p r n)
     (pick (ltb n (sizeOf c r))
-    (record { number = checkNumber (shrinkCheck c r n); control = shrinkControl c r n; pool = p })
-    (record { number = 0; control = c; pool = p }))
+    (record { number = checkNumber (shrinkCheck c r n); after = record { control = shrinkControl c r n; pool = p } })
+    (record { number = done; after = record { control = c; pool = p } }))
 
 -- "1, 2 (neither stack nor heap), 10"
 unfoldable pub resizeCheck : List ℕ → List ℕ → List ℕ → ℕ → ℕ → Check
@@ -153,7 +143,7 @@ regionOf code = pick (eqb code (usageOf Stack)) Stack Heap
 -- what is done, or the refusal's number and both buffers as they were
 abbrev pub orRefused : Check → List ℕ → List ℕ → Resized → Resized
 orRefused Pass c p o = o
-orRefused (Stop r) c p o = record { number = checkNumber (Stop r); control = c; pool = p }
+orRefused (Stop r) c p o = record { number = checkNumber (Stop r); after = record { control = c; pool = p } }
 
 -- a resize
 unfoldable pub resizeOf : List ℕ → List ℕ → List ℕ → ℕ → ℕ → Resized

@@ -1,16 +1,18 @@
 // Growing a region: the lowest free frames, the nearest page first, in one pass over the frame table.
-use control::header::ENTRY;
-use control::header::TABLE_AT;
 use control::header::frame_count;
 use control::header::invocation_count;
 use control::shadow::Region;
 use control::shadow::set_pages;
 use frames::finding::has_free;
+use frames::finding::lowest_free;
 use frames::finding::usage_of;
-use frames::table::Frame;
 use frames::table::FrameEntry;
-use frames::table::Page;
 use frames::table::put_frame_entry;
+use layout::page::PAGE;
+use layout::page::REGION;
+use pages::Frame;
+use pages::Page;
+use pages::frame_start;
 use refusal::DONE;
 use refusal::Refusal;
 use refusal::number;
@@ -18,48 +20,31 @@ use snapshot::accounts::Account;
 use words::runs::clear;
 ghost use mathlib.Core.Path.{_≡_};
 ghost use mathlib.Core.Bool.{true};
-ghost use Prim.Native.Nat.{_+_, _-_, _*_, _≤_, _<_};
+ghost use Prim.Native.Nat.{_+_, _-_, _≤_, _<_};
 ghost use lib.ListN.{length};
+ghost use Rattle.layout.specs.Page.{poolLength, pageSize, pageLimit};
 ghost use Rattle.words.specs.Words.{splice, zeros};
-ghost use Rattle.choice.specs.Search.{seek};
-ghost use Rattle.control.specs.Control.{controlLength, controlValid, poolLength, frames, current, pagesOf};
-ghost use Rattle.frames.specs.Table.{isFree, freeCount, putFrameEntry, frameStart, entryEnd};
+ghost use Rattle.control.specs.Control.{controlValid, frames, current, pagesOf};
+ghost use Rattle.pages.specs.Pages.{frameStart};
+ghost use Rattle.frames.specs.Table.{freeCount, putFrameEntry, entryEnd};
 ghost use Rattle.regions.specs.Resize.{pageAt, regionEntry, grown, growTo};
-
-// The length of a frame.
-const PAGE: usize = 4096;
 
 // The k-th page of a region, the nearest first: the heap grows up from page 0, the stack down from page 4,095.
 pub fn page_at(r: Region, k: usize) -> Page
-    requires { ⌜ k < 4096 ⌝ }
+    requires { ⌜ k < pageLimit ⌝ }
     ensures { λ p. ⌜ p ≡ pageAt r k ⌝ }
 {
     match r {
-        Region::Stack => Page((4095 - k) as u16),
+        Region::Stack => Page((REGION - 1 - k) as u16),
         Region::Heap => Page(k as u16),
     }
 }
 
-// The lowest free entry from `from` on; the frame count where none is.
-fn next_free(c: &[u8], from: usize, frames: usize) -> usize
-    requires { ⌜ (frames ≤ 1024) × (from ≤ frames) × (controlLength frames ≤ length (now c)) ⌝ }
-    ensures { λ r. ⌜ r ≡ seek (isFree (now (c .entry))) from (frames - from) ⌝ }
-{
-    let mut i = from;
-    while i < frames {
-        if c[TABLE_AT + ENTRY * i] == 0 {
-            return i;
-        }
-        i += 1;
-    }
-    frames
-}
-
 // Takes a frame for a region's page: its entry, and zeros for its bytes.
 fn take_page(c: &mut [u8], pool: &mut [u8], f: Frame, r: Region, page: Page, depth: u8)
-    requires { ⌜ (entryEnd (f .0) ≤ length (now c)) × (frameStart f + 4096 ≤ length (now pool)) ⌝ }
+    requires { ⌜ (entryEnd (f .0) ≤ length (now c)) × (frameStart f + pageSize ≤ length (now pool)) ⌝ }
     ensures { λ _. ⌜ now (c .exit) ≡ putFrameEntry (now (c .entry)) (f .0) (regionEntry depth r page) ⌝ }
-    ensures { λ _. ⌜ now (pool .exit) ≡ splice (now (pool .entry)) (frameStart f) (zeros 4096) ⌝ }
+    ensures { λ _. ⌜ now (pool .exit) ≡ splice (now (pool .entry)) (frameStart f) (zeros pageSize) ⌝ }
 {
     put_frame_entry(
         c,
@@ -72,13 +57,13 @@ fn take_page(c: &mut [u8], pool: &mut [u8], f: Frame, r: Region, page: Page, dep
             zero: 0,
         },
     );
-    clear(pool, PAGE * (f.0 as usize), PAGE);
+    clear(pool, frame_start(f), PAGE);
 }
 
 // Takes frames for the pages from the size on, up to `pages`.
 fn take_pages(c: &mut [u8], pool: &mut [u8], r: Region, size: usize, pages: usize)
     requires { ⌜ (controlValid (now c) ≡ true) × (length (now pool) ≡ poolLength (frames (now c))) ⌝ }
-    requires { ⌜ (size ≤ pages) × (pages ≤ 4096) × (pages - size ≤ freeCount (now c)) ⌝ }
+    requires { ⌜ (size ≤ pages) × (pages ≤ pageLimit) × (pages - size ≤ freeCount (now c)) ⌝ }
     ensures { λ _. ⌜ now (c .exit) ≡ grown r size (now (c .entry)) (now (pool .entry)) (pages - size) .control ⌝ }
     ensures { λ _. ⌜ now (pool .exit) ≡ grown r size (now (c .entry)) (now (pool .entry)) (pages - size) .pool ⌝ }
 {
@@ -87,7 +72,7 @@ fn take_pages(c: &mut [u8], pool: &mut [u8], r: Region, size: usize, pages: usiz
     let mut at = 0;
     let mut k = size;
     while k < pages {
-        at = next_free(c, at, frames);
+        at = lowest_free(c, at, frames);
         take_page(c, pool, Frame(at as u16), r, page_at(r, k), depth);
         k += 1;
     }
@@ -96,10 +81,10 @@ fn take_pages(c: &mut [u8], pool: &mut [u8], r: Region, size: usize, pages: usiz
 // Grows the current invocation's region from its size to more pages, if that many frames are free.
 pub fn grow_to(c: &mut [u8], pool: &mut [u8], r: Region, size: usize, pages: usize) -> u8
     requires { ⌜ (controlValid (now c) ≡ true) × (length (now pool) ≡ poolLength (frames (now c))) ⌝ }
-    requires { ⌜ (size ≡ pagesOf (current (now c)) r) × (size < pages) × (pages ≤ 4096) ⌝ }
+    requires { ⌜ (size ≡ pagesOf (current (now c)) r) × (size < pages) × (pages ≤ pageLimit) ⌝ }
     ensures { λ n. ⌜ n ≡ growTo (now (c .entry)) (now (pool .entry)) r pages .number ⌝ }
-    ensures { λ _. ⌜ now (c .exit) ≡ growTo (now (c .entry)) (now (pool .entry)) r pages .control ⌝ }
-    ensures { λ _. ⌜ now (pool .exit) ≡ growTo (now (c .entry)) (now (pool .entry)) r pages .pool ⌝ }
+    ensures { λ _. ⌜ now (c .exit) ≡ growTo (now (c .entry)) (now (pool .entry)) r pages .after .control ⌝ }
+    ensures { λ _. ⌜ now (pool .exit) ≡ growTo (now (c .entry)) (now (pool .entry)) r pages .after .pool ⌝ }
 {
     if has_free(c, pages - size) {
         let live = invocation_count(c);

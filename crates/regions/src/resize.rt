@@ -5,6 +5,9 @@ use control::buffers::buffers_valid;
 use control::header::invocation_count;
 use control::shadow::Region;
 use control::shadow::invocation_at;
+use layout::control::HEAP;
+use layout::control::STACK;
+use layout::page::REGION;
 use refusal::Check;
 use refusal::DONE;
 use refusal::Refusal;
@@ -13,17 +16,9 @@ ghost use mathlib.Core.Path.{_≡_};
 ghost use mathlib.Core.Bool.{true};
 ghost use Prim.Native.Nat.{_≤_};
 ghost use lib.ListN.{length};
-ghost use Rattle.control.specs.Control.{controlValid, poolLength, frames, current, pagesOf};
+ghost use Rattle.layout.specs.Page.{poolLength, pageLimit};
+ghost use Rattle.control.specs.Control.{controlValid, frames, current, pagesOf};
 ghost use Rattle.regions.specs.Resize.{resizeCheck, resizeTo, resizeOf};
-
-// The code of the stack: the use byte of its frames.
-const STACK: u8 = 2;
-
-// The code of the heap: the use byte of its frames.
-const HEAP: u8 = 3;
-
-// The most pages of a region.
-const PAGES: usize = 4096;
 
 // The tests of a resize, in order.
 fn resize_check(s: &[u8], c: &[u8], pool: &[u8], region: u8, pages: usize) -> Check
@@ -36,7 +31,7 @@ fn resize_check(s: &[u8], c: &[u8], pool: &[u8], region: u8, pages: usize) -> Ch
         if HEAP < region {
             return Check::Stop(Refusal::BadRequest);
         }
-        if pages <= PAGES {
+        if pages <= REGION {
             return Check::Pass;
         }
         return Check::Stop(Refusal::TooManyPages);
@@ -47,10 +42,10 @@ fn resize_check(s: &[u8], c: &[u8], pool: &[u8], region: u8, pages: usize) -> Ch
 // Grows or shrinks the region of the current invocation; the same size changes nothing.
 fn resize_to(c: &mut [u8], pool: &mut [u8], r: Region, pages: usize) -> u8
     requires { ⌜ (controlValid (now c) ≡ true) × (length (now pool) ≡ poolLength (frames (now c))) ⌝ }
-    requires { ⌜ (pagesOf (current (now c)) r ≤ 4096) × (pages ≤ 4096) ⌝ }
+    requires { ⌜ (pagesOf (current (now c)) r ≤ pageLimit) × (pages ≤ pageLimit) ⌝ }
     ensures { λ n. ⌜ n ≡ resizeTo (now (c .entry)) (now (pool .entry)) r pages .number ⌝ }
-    ensures { λ _. ⌜ now (c .exit) ≡ resizeTo (now (c .entry)) (now (pool .entry)) r pages .control ⌝ }
-    ensures { λ _. ⌜ now (pool .exit) ≡ resizeTo (now (c .entry)) (now (pool .entry)) r pages .pool ⌝ }
+    ensures { λ _. ⌜ now (c .exit) ≡ resizeTo (now (c .entry)) (now (pool .entry)) r pages .after .control ⌝ }
+    ensures { λ _. ⌜ now (pool .exit) ≡ resizeTo (now (c .entry)) (now (pool .entry)) r pages .after .pool ⌝ }
 {
     let i = invocation_at(c, invocation_count(c));
     let size = i.pages(r) as usize;
@@ -66,8 +61,8 @@ fn resize_to(c: &mut [u8], pool: &mut [u8], r: Region, pages: usize) -> u8
 // Resizes the stack or the heap of the current invocation to so many pages.
 pub fn resize(s: &[u8], c: &mut [u8], pool: &mut [u8], region: u8, pages: usize) -> u8
     ensures { λ n. ⌜ n ≡ resizeOf (now (s .entry)) (now (c .entry)) (now (pool .entry)) region pages .number ⌝ }
-    ensures { λ _. ⌜ now (c .exit) ≡ resizeOf (now (s .entry)) (now (c .entry)) (now (pool .entry)) region pages .control ⌝ }
-    ensures { λ _. ⌜ now (pool .exit) ≡ resizeOf (now (s .entry)) (now (c .entry)) (now (pool .entry)) region pages .pool ⌝ }
+    ensures { λ _. ⌜ now (c .exit) ≡ resizeOf (now (s .entry)) (now (c .entry)) (now (pool .entry)) region pages .after .control ⌝ }
+    ensures { λ _. ⌜ now (pool .exit) ≡ resizeOf (now (s .entry)) (now (c .entry)) (now (pool .entry)) region pages .after .pool ⌝ }
 {
     let check = resize_check(s, c, pool, region, pages);
     if let Check::Stop(r) = check {

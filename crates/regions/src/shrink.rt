@@ -1,43 +1,42 @@
 // Shrinking a region: its outermost pages are freed. One pass over the frame table finds the frame of every page.
 use super::grow::page_at;
-use control::header::ENTRY;
-use control::header::TABLE_AT;
 use control::header::frame_count;
 use control::header::invocation_count;
 use control::shadow::Region;
 use control::shadow::set_pages;
 use frames::finding::usage_of;
-use frames::table::Frame;
+use frames::table::entry_at;
 use frames::table::frame_entry;
 use frames::table::free_frame_entry;
+use frames::table::usage_at;
+use layout::page::REGION;
+use pages::Frame;
 use refusal::DONE;
 use refusal::Refusal;
 use refusal::number;
-use words::numbers::u16_at;
 ghost use mathlib.Core.Path.{_≡_};
 ghost use mathlib.Core.Bool.{true};
-ghost use Prim.Native.Nat.{ℕ, _-_, _≤_, _<_};
-ghost use lib.ListN.{length, getD};
-ghost use Rattle.control.specs.Control.{controlValid, frames, current, pagesOf};
+ghost use Prim.Native.Nat.{_-_, _≤_, _<_};
+ghost use Rattle.layout.specs.Page.{pageLimit};
 ghost use Rattle.refusal.specs.Checks.{checkNumber};
+ghost use Rattle.control.specs.Control.{controlValid, frames, current, pagesOf};
 ghost use Rattle.regions.specs.Resize.{FramesOf, allHeld, allLeave, shrunk, shrinkCheck, shrinkControl};
 
 // The frame of each page of a region; the frame count for a page that has none. From the last entry to the first, so that the
 // lowest claim stays.
-fn frames_by_page(c: &[u8], r: Region) -> [u16; 4096]
+fn frames_by_page(c: &[u8], r: Region) -> [u16; REGION]
     requires { ⌜ controlValid (now c) ≡ true ⌝ }
     ensures { λ t. ⌜ FramesOf (now (c .entry)) r t ⌝ }
 {
     let usage = usage_of(r);
     let frames = frame_count(c);
-    let mut table = [frames as u16; 4096];
+    let mut table = [frames as u16; REGION];
     let mut i = frames;
     while 0 < i {
         i -= 1;
-        let at = TABLE_AT + ENTRY * i;
-        if c[at] == usage {
-            let page = u16_at(c, at + 4) as usize;
-            if page < 4096 {
+        if usage_at(c, i) == usage {
+            let page = entry_at(c, i).page.0 as usize;
+            if page < REGION {
                 table[page] = i as u16;
             }
         }
@@ -46,8 +45,8 @@ fn frames_by_page(c: &[u8], r: Region) -> [u16; 4096]
 }
 
 // Whether each page from `pages` up to the size has a frame.
-fn all_held(c: &[u8], table: &[u16; 4096], r: Region, pages: usize, size: usize) -> bool
-    requires { ⌜ (controlValid (now c) ≡ true) × FramesOf (now c) r (now table) × (pages ≤ size) × (size ≤ 4096) ⌝ }
+fn all_held(c: &[u8], table: &[u16; REGION], r: Region, pages: usize, size: usize) -> bool
+    requires { ⌜ (controlValid (now c) ≡ true) × FramesOf (now c) r (now table) × (pages ≤ size) × (size ≤ pageLimit) ⌝ }
     ensures { λ b. ⌜ b ≡ allHeld (now (c .entry)) r pages (size - pages) ⌝ }
 {
     let frames = frame_count(c);
@@ -63,8 +62,8 @@ fn all_held(c: &[u8], table: &[u16; 4096], r: Region, pages: usize, size: usize)
 }
 
 // Whether the frame of each page from `pages` up to the size has a tag at or above the depth.
-fn all_leave(c: &[u8], table: &[u16; 4096], r: Region, pages: usize, size: usize) -> bool
-    requires { ⌜ (controlValid (now c) ≡ true) × FramesOf (now c) r (now table) × (pages ≤ size) × (size ≤ 4096) ⌝ }
+fn all_leave(c: &[u8], table: &[u16; REGION], r: Region, pages: usize, size: usize) -> bool
+    requires { ⌜ (controlValid (now c) ≡ true) × FramesOf (now c) r (now table) × (pages ≤ size) × (size ≤ pageLimit) ⌝ }
     requires { ⌜ allHeld (now c) r pages (size - pages) ≡ true ⌝ }
     ensures { λ b. ⌜ b ≡ allLeave (now (c .entry)) r pages (size - pages) ⌝ }
 {
@@ -82,8 +81,8 @@ fn all_leave(c: &[u8], table: &[u16; 4096], r: Region, pages: usize, size: usize
 }
 
 // Frees the frame of each page from `pages` up to the size.
-fn free_pages(c: &mut [u8], table: &[u16; 4096], r: Region, pages: usize, size: usize)
-    requires { ⌜ (controlValid (now c) ≡ true) × FramesOf (now c) r (now table) × (pages ≤ size) × (size ≤ 4096) ⌝ }
+fn free_pages(c: &mut [u8], table: &[u16; REGION], r: Region, pages: usize, size: usize)
+    requires { ⌜ (controlValid (now c) ≡ true) × FramesOf (now c) r (now table) × (pages ≤ size) × (size ≤ pageLimit) ⌝ }
     requires { ⌜ allHeld (now c) r pages (size - pages) ≡ true ⌝ }
     ensures { λ _. ⌜ now (c .exit) ≡ shrunk (now (c .entry)) r pages (size - pages) ⌝ }
 {
@@ -98,7 +97,7 @@ fn free_pages(c: &mut [u8], table: &[u16; 4096], r: Region, pages: usize, size: 
 // Shrinks the current invocation's region from its size to fewer pages, if each page that goes has a frame and may be freed.
 pub fn shrink_to(c: &mut [u8], r: Region, pages: usize, size: usize) -> u8
     requires { ⌜ controlValid (now c) ≡ true ⌝ }
-    requires { ⌜ (size ≡ pagesOf (current (now c)) r) × (pages < size) × (size ≤ 4096) ⌝ }
+    requires { ⌜ (size ≡ pagesOf (current (now c)) r) × (pages < size) × (size ≤ pageLimit) ⌝ }
     ensures { λ n. ⌜ n ≡ checkNumber (shrinkCheck (now (c .entry)) r pages) ⌝ }
     ensures { λ _. ⌜ now (c .exit) ≡ shrinkControl (now (c .entry)) r pages ⌝ }
 {

@@ -8,6 +8,7 @@ use access::stores::store;
 use address::Address;
 use apply::apply;
 use changes::list::change_list;
+use invoke::begin::Start;
 use invoke::begin::begin;
 use regions::resize::resize;
 use snapshot::accounts::Account;
@@ -16,7 +17,10 @@ use words::numbers::padded;
 // Begins the program, account 0.
 pub fn begin_program(snapshot: &[u8], control: &mut [u8], pool: &[u8]) {
     say(b"  begin 0");
-    answered(begin(snapshot, control, pool, Account(0)));
+    let start = Start {
+        program: Account(0),
+    };
+    answered(begin(snapshot, control, pool, start));
 }
 
 // Resizes a region: 2 is the stack, 3 the heap.
@@ -36,7 +40,8 @@ pub fn load_at(snapshot: &[u8], control: &[u8], pool: &[u8], address: u64, size:
     hex(address, 12);
     let v = load(snapshot, control, pool, Address(address), size);
     say(b": ");
-    number(v.number as u64);
+    let o = v.outcome;
+    number(o.number as u64);
     say(b", value ");
     hex(v.value, 2);
     say(b"\n");
@@ -48,7 +53,8 @@ pub fn store_byte(snapshot: &[u8], control: &mut [u8], pool: &mut [u8], address:
     hex(b, 2);
     say(b" at ");
     hex(address, 12);
-    answered(store(snapshot, control, pool, Address(address), 1, b));
+    let o = store(snapshot, control, pool, Address(address), 1, b);
+    answered(o.number);
 }
 
 // Prints the u32 at a place.

@@ -3,6 +3,8 @@ use super::calls::begin_program;
 use super::calls::load_at;
 use super::calls::resize_to;
 use super::print::say;
+use layout::control::HEAP;
+use layout::control::STACK;
 
 // "Account data of 6,000 bytes: [..] 8 at 5992 done; 8 at 6000: 3."
 pub fn account_data(snapshot: &[u8], control: &mut [u8], pool: &[u8]) {
@@ -24,7 +26,7 @@ pub fn block_contexts(snapshot: &[u8], control: &mut [u8], pool: &[u8]) {
 pub fn stack_page(snapshot: &[u8], control: &mut [u8], pool: &mut [u8]) {
     say(b"one stack page\n");
     begin_program(snapshot, control, pool);
-    resize_to(snapshot, control, pool, 2, 1);
+    resize_to(snapshot, control, pool, STACK, 1);
     load_at(snapshot, control, pool, 0x0500_00ff_f000, 8);
     load_at(snapshot, control, pool, 0x0500_00ff_efff, 1);
 }
@@ -33,7 +35,7 @@ pub fn stack_page(snapshot: &[u8], control: &mut [u8], pool: &mut [u8]) {
 pub fn heap_page(snapshot: &[u8], control: &mut [u8], pool: &mut [u8]) {
     say(b"one heap page\n");
     begin_program(snapshot, control, pool);
-    resize_to(snapshot, control, pool, 3, 1);
+    resize_to(snapshot, control, pool, HEAP, 1);
     load_at(snapshot, control, pool, 0x0700_0000_0fff, 1);
     load_at(snapshot, control, pool, 0x0700_0000_1000, 1);
 }

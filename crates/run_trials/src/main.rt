@@ -11,11 +11,15 @@ mod two_stores;
 use fixture::MOST_CONTEXTS;
 use fixture::ONE_CONTEXT;
 use fixture::write_snapshot;
+use layout::control::FRAME_ENTRY;
+use layout::control::TABLE_AT;
+use layout::page::PAGE;
+use layout::snapshot::CONTEXTS;
 
 // The trial on the last of 512 block contexts, over a snapshot of its own.
 fn most_contexts(control: &mut [u8], pool: &[u8]) {
     let mut snapshot = [0u8; MOST_CONTEXTS];
-    write_snapshot(&mut snapshot, 512);
+    write_snapshot(&mut snapshot, CONTEXTS as u16);
     edges::block_contexts(&snapshot, control, pool);
 }
 
@@ -23,8 +27,8 @@ fn most_contexts(control: &mut [u8], pool: &[u8]) {
 fn main() {
     let mut snapshot = [0u8; ONE_CONTEXT];
     write_snapshot(&mut snapshot, 1);
-    let mut control = [7u8; 4520];
-    let mut pool = [9u8; 8192];
+    let mut control = [7u8; TABLE_AT + 2 * FRAME_ENTRY];
+    let mut pool = [9u8; 2 * PAGE];
     edges::account_data(&snapshot, &mut control, &pool);
     most_contexts(&mut control, &pool);
     edges::stack_page(&snapshot, &mut control, &mut pool);

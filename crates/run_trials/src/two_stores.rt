@@ -3,11 +3,15 @@ use super::calls::apply_list;
 use super::calls::begin_program;
 use super::calls::list_changes;
 use super::calls::store_byte;
+use super::fixture::SLOTS;
 use super::print::number;
 use super::print::say;
 use super::print::show;
 use super::slots::changed;
 use super::slots::fill;
+use layout::list::CHANGE;
+use layout::list::LIST_HEADER;
+use layout::page::PAGE;
 
 // The list with no store, then both stores, then the list that holds them. The second store goes to the copy that the first one made.
 fn store_twice(snapshot: &[u8], control: &mut [u8], pool: &mut [u8], list: &mut [u8]) {
@@ -20,11 +24,11 @@ fn store_twice(snapshot: &[u8], control: &mut [u8], pool: &mut [u8], list: &mut 
 
 // Applies the list to the original slots, and prints what came of them.
 fn apply_to_slots(list: &[u8]) {
-    let mut bytes = [0u8; 6000];
+    let mut bytes = [0u8; SLOTS];
     fill(&mut bytes);
     apply_list(list, &mut bytes);
     say(b"  the slots from 4096 on");
-    show(&bytes[4096..4112]);
+    show(&bytes[PAGE..PAGE + 16]);
     say(b"  bytes that differ from the original: ");
     number(changed(&bytes) as u64);
     say(b"\n");
@@ -34,7 +38,7 @@ fn apply_to_slots(list: &[u8]) {
 // is lent eight bytes more than its total, which stay as they were.
 pub fn run(snapshot: &[u8], control: &mut [u8], pool: &mut [u8]) {
     say(b"account 5, two byte stores\n");
-    let mut list = [238u8; 4128];
+    let mut list = [238u8; LIST_HEADER + CHANGE + PAGE + 8];
     store_twice(snapshot, control, pool, &mut list);
     say(b"  the change list, and eight bytes past it");
     show(&list);

@@ -1,43 +1,22 @@
 -- What a valid request gives: each test that passed is a fact about its numbers. Assumes nothing.
 use Prim.Native.Nat.{ℕ, _+_, _%_, _≤_, _<_}
-use mathlib.Core.Path.{_≡_, refl, sym, _∙_}
-use mathlib.Core.Bool.{true, false}
+use mathlib.Core.Path.{_≡_, sym, _∙_}
+use mathlib.Core.Bool.{true}
 use mathlib.Core.Logic.{_⊎_, inl, inr, ⊎-elim}
 use native.Mathlib.Decide.{decLt}
 use native.Mathlib.Omega.{arith}
 use borrow.Author.Tests.{leb-true, le-leb, lt-leb, eqb-true}
+use Rattle.layout.specs.Page.{pageSize}
 use Rattle.choice.specs.Choice.{pick, both, either}
 use Rattle.choice.proofs.Tests.{by-test, both-true, either-true}
+use Rattle.segments.specs.Kinds.{kindStoreSpan, isSpan, isSize, requestValid, aligned, within}
 use lib.Dec.{leb, eqb}
-use Rattle.segments.specs.Kinds.{kindLoad, kindStore, kindFetch, kindLoadSpan, kindStoreSpan, pageSize, isStore, isSpan, isSize, requestValid, aligned, within}
 
 -- orders that follow from each other have the same test
 pub same-leb : (a b c d : ℕ) → (a ≤ b → c ≤ d) → (c ≤ d → a ≤ b) → leb a b ≡ leb c d
 same-leb a b c d f g =
     by-test (leb a b) (λ e. e ∙ sym (le-leb c d (f (leb-true a b e))))
     (λ e. by-test (leb c d) (λ h. le-leb a b (g (leb-true c d h)) ∙ sym h) (λ h. e ∙ sym h))
-
--- ---- the five kinds
-
--- a load does not store
-pub load-loads : isStore kindLoad ≡ false
-load-loads = refl
-
--- a store does
-pub store-stores : isStore kindStore ≡ true
-store-stores = refl
-
--- a fetch does not
-pub fetch-loads : isStore kindFetch ≡ false
-fetch-loads = refl
-
--- a span load does not
-pub load-span-loads : isStore kindLoadSpan ≡ false
-load-span-loads = refl
-
--- a span store does
-pub store-span-stores : isStore kindStoreSpan ≡ true
-store-span-stores = refl
 
 -- ---- a valid request
 
@@ -58,10 +37,6 @@ module _ (kind n : ℕ) (valid : requestValid kind n ≡ true) where
   unfolding requestValid
   tests = both-true (leb kind kindStoreSpan) (pick (isSpan kind) (both (leb 1 n) (leb n pageSize)) (isSize n)) valid
 
-  -- its kind is one of the five
-  pub request-kind : kind ≤ 4
-  request-kind = leb-true kind 4 (tests .0)
-
   -- a load, a store or a fetch has a length of 1, 2, 4 or 8
   pub request-size : kind < 3 → (n ≡ 1) ⊎ ((n ≡ 2) ⊎ ((n ≡ 4) ⊎ (n ≡ 8)))
   request-size h = size-cases n (rw (lt-leb 3 kind h) at (tests .1))
@@ -75,13 +50,13 @@ module _ (kind n : ℕ) (valid : requestValid kind n ≡ true) where
   request-short h = by-size h (λ e. omega arith) (λ e. omega arith) (λ e. omega arith) (λ e. omega arith)
 
   -- a span has 1 to 4,096
-  pub request-span : 3 ≤ kind → (1 ≤ n) × (n ≤ 4096)
+  pub request-span : 3 ≤ kind → (1 ≤ n) × (n ≤ pageSize)
   request-span h =
-      let b = both-true (leb 1 n) (leb n 4096) (rw (le-leb 3 kind h) at (tests .1)) in
-      (leb-true 1 n (b .0), leb-true n 4096 (b .1))
+      let b = both-true (leb 1 n) (leb n pageSize) (rw (le-leb 3 kind h) at (tests .1)) in
+      (leb-true 1 n (b .0), leb-true n pageSize (b .1))
 
   -- every request has 1 to 4,096
-  pub request-length : (1 ≤ n) × (n ≤ 4096)
+  pub request-length : (1 ≤ n) × (n ≤ pageSize)
   request-length =
       elim (decLt kind 3) [ yes h ↦ omega (arith, request-short h) | no h ↦ request-span (omega arith) ]
 
@@ -94,11 +69,11 @@ span-aligned kind offset n h = rw (le-leb 3 kind h)
 
 module _ (offset n : ℕ) where
   -- bytes within one page end at its end at the latest
-  pub within-length : within offset n ≡ true → offset % 4096 + n ≤ 4096
+  pub within-length : within offset n ≡ true → offset % pageSize + n ≤ pageSize
   unfolding within
-  within-length e = leb-true (offset % 4096 + n) 4096 e
+  within-length e = leb-true (offset % pageSize + n) pageSize e
 
   -- and the other way round
-  pub length-within : offset % 4096 + n ≤ 4096 → within offset n ≡ true
+  pub length-within : offset % pageSize + n ≤ pageSize → within offset n ≡ true
   unfolding within
-  length-within h = le-leb (offset % 4096 + n) 4096 h
+  length-within h = le-leb (offset % pageSize + n) pageSize h

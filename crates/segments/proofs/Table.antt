@@ -188,10 +188,6 @@ module _ (t i n : ℕ) (r : Row) (found : rowOf rules t i n ≡ Is r) where
   pub metadata-known : r .presence ≡ Metadata → i < n
   metadata-known e = known (r .index) i n (rw e at (laws .0)) (matches .1)
 
-  -- account data is stored to by its owner
-  pub data-owner : r .presence ≡ Data → r .store ≡ Owner
-  data-owner e = rw e at store-of
-
   -- a row of account data is the one of type 3
   pub data-is : r .presence ≡ Data → r ≡ row 3 AnyAccount Data Owner
   data-is e =
@@ -201,10 +197,6 @@ module _ (t i n : ℕ) (r : Row) (found : rowOf rules t i n ≡ Is r) where
   -- so the type asked for is 3
   pub data-type : r .presence ≡ Data → t ≡ 3
   data-type e = sym found-type ∙ ap (λ (x : Row). x .segment) (data-is e)
-
-  -- stack and heap are stored to by tag
-  pub region-tag : (r .presence ≡ Stack) ⊎ (r .presence ≡ Heap) → r .store ≡ Tag
-  region-tag w = ⊎-elim (λ e. rw e at store-of) (λ e. rw e at store-of) w
 
   -- the transaction, the shadow stack, the program, the block contexts and the metadata are never stored to: for each, p is its
   -- presence, and `refl` the second argument

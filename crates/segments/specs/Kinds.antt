@@ -2,6 +2,7 @@
 use Prim.Native.Nat.{ℕ, _+_, _%_}
 use mathlib.Core.Bool.{Bool}
 use lib.Dec.{leb, eqb}
+use Rattle.layout.specs.Page.{pageSize}
 use Rattle.choice.specs.Choice.{pick, both, either}
 
 -- the kinds: 0 load, 1 store, 2 fetch, 3 span load, 4 span store
@@ -23,10 +24,6 @@ kindLoadSpan = 3
 -- a span store
 abbrev pub kindStoreSpan : ℕ
 kindStoreSpan = 4
-
--- "crosses a 4,096 boundary"
-abbrev pub pageSize : ℕ
-pageSize = 4096
 
 -- a store or a span store
 abbrev pub isStore : ℕ → Bool

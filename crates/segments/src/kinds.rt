@@ -1,4 +1,5 @@
 // The kinds of access, and what a kind asks of a length and an offset.
+use layout::page::PAGE;
 ghost use mathlib.Core.Path.{_≡_};
 ghost use mathlib.Core.Bool.{true};
 ghost use Rattle.segments.specs.Kinds.{isStore, isSize, requestValid, aligned, within};
@@ -17,9 +18,6 @@ pub const LOAD_SPAN: u8 = 3;
 
 // A span store.
 pub const STORE_SPAN: u8 = 4;
-
-// The length of a page, and the longest span.
-const PAGE: usize = 4096;
 
 // Whether the kind stores.
 pub fn is_store(kind: u8) -> bool

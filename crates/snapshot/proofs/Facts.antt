@@ -1,14 +1,15 @@
 -- A valid header and a valid entry, as facts by name, and what they say of an account's data. Assumes nothing.
-use Prim.Native.Nat.{ℕ, _+_, _*_, _^_, _≤_, _<_}
+use Prim.Native.Nat.{ℕ, _+_, _*_, _≤_, _<_}
 use mathlib.Core.Path.{_≡_}
 use mathlib.Core.Bool.{true}
 use mathlib.Core.List.{List}
 use native.Mathlib.Omega.{arith}
 use lib.ListN.{length, getD}
 use borrow.Author.Tests.{leb-true, eqb-true, ltb-true}
+use Rattle.layout.specs.Snapshot.{headerSize, entrySize, contextSize, accountLimit, contextLimit, transactionLimit, dataLimit, snapshotLimit}
 use Rattle.words.proofs.Run.{length-bytesAt, getD-bytesAt}
 use Rattle.choice.proofs.Tests.{both-true, by-test}
-use Rattle.snapshot.specs.Header.{headerSize, entrySize, contextSize, headerOf, accounts, contexts, transaction, countsValid, offsetsValid, totalValid, snapshotValid}
+use Rattle.snapshot.specs.Header.{headerOf, accounts, contexts, transaction, countsValid, offsetsValid, totalValid, snapshotValid}
 use Rattle.snapshot.specs.Accounts.{known, entryAt, entryOf, exists, dataLength, bodyValid, validWithin, entryValid, original}
 use Rattle.snapshot.specs.declared.header.Header.{Header}
 use Rattle.snapshot.specs.declared.accounts.Account.{Account}
@@ -16,7 +17,7 @@ use Rattle.snapshot.specs.declared.accounts.Account.{Account}
 -- ---- the header
 
 -- counts that pass the test are within their limits
-pub counts-limited : (h : Header) → countsValid h ≡ true → (h .accounts ≤ 64) × (h .contexts ≤ 512) × (h .transaction ≤ 65536)
+pub counts-limited : (h : Header) → countsValid h ≡ true → (h .accounts ≤ accountLimit) × (h .contexts ≤ contextLimit) × (h .transaction ≤ transactionLimit)
 unfolding countsValid
 counts-limited h e =
     let t₁ = both-true _ _ e in
@@ -26,16 +27,16 @@ counts-limited h e =
 -- what a valid header keeps
 pub record SnapshotFacts (s : List ℕ) : Type 0 where
   pub header : headerSize ≤ length s
-  pub few-accounts : accounts s ≤ 64
-  pub few-contexts : contexts s ≤ 512
-  pub short-transaction : transaction s ≤ 65536
+  pub few-accounts : accounts s ≤ accountLimit
+  pub few-contexts : contexts s ≤ contextLimit
+  pub short-transaction : transaction s ≤ transactionLimit
   pub accounts-at : headerOf s .«accounts_at» ≡ headerSize
   pub contexts-at : headerOf s .«contexts_at» ≡ headerSize + entrySize * accounts s
   pub transaction-at : headerOf s .«transaction_at» ≡ headerSize + entrySize * accounts s + contextSize * contexts s
   pub data-at : headerOf s .«data_at» ≡ headerSize + entrySize * accounts s + contextSize * contexts s + transaction s
   pub total : headerOf s .total ≡ length s
   pub room : headerOf s .«data_at» ≤ length s
-  pub most : length s ≤ 2 ^ 31
+  pub most : length s ≤ snapshotLimit
 
 pub snapshot-facts : (s : List ℕ) → snapshotValid s ≡ true → SnapshotFacts s
 unfolding snapshotValid offsetsValid totalValid
@@ -51,7 +52,7 @@ snapshot-facts s e =
     let l₂ = both-true _ _ (l₁ .1) in
     let total : headerOf s .total ≡ length s = eqb-true _ _ (l₁ .0) in
     let room : headerOf s .«data_at» ≤ headerOf s .total = leb-true _ _ (l₂ .0) in
-    let most : headerOf s .total ≤ 2 ^ 31 = leb-true _ _ (l₂ .1) in
+    let most : headerOf s .total ≤ snapshotLimit = leb-true _ _ (l₂ .1) in
     record {
       header = leb-true _ _ (t₁ .0);
       few-accounts = c .0;
@@ -79,7 +80,7 @@ entry-inside s a v k =
 pub record EntryFacts (s : List ℕ) (a : Account) : Type 0 where
   pub few-flags : entryOf s a .flags ≤ 3
   pub zero : entryOf s a .zero ≡ 0
-  pub short : entryOf s a .length ≤ 2 ^ 24
+  pub short : entryOf s a .length ≤ dataLimit
   pub behind : headerOf s .«data_at» ≤ entryOf s a .start
   pub within : entryOf s a .start + entryOf s a .length ≤ headerOf s .total
 
@@ -102,7 +103,7 @@ entry-facts s a v x =
 
 module _ (s : List ℕ) (a : Account) where
   -- no account has more data than 2^24 bytes
-  pub data-short : entryValid s a ≡ true → dataLength (entryOf s a) ≤ 2 ^ 24
+  pub data-short : entryValid s a ≡ true → dataLength (entryOf s a) ≤ dataLimit
   data-short v =
       by-test (exists (entryOf s a)) (λ x. rw x (entry-facts s a v x .short)) (λ x. rw x (omega arith))
 

@@ -1,11 +1,12 @@
 -- Document 01, "Three lent buffers": the account entries of the ground, here the snapshot s. Assumes nothing.
-use Prim.Native.Nat.{ℕ, _+_, _*_, _/_, _%_, _^_}
+use Prim.Native.Nat.{ℕ, _+_, _*_, _/_, _%_}
 use mathlib.Core.Bool.{Bool, not}
 use mathlib.Core.List.{List}
 use lib.Dec.{ltb, leb, eqb}
+use Rattle.layout.specs.Snapshot.{headerSize, entrySize, metadataOffset, dataLimit}
 use Rattle.words.specs.Words.{wordAt, bytesAt}
 use Rattle.choice.specs.Choice.{pick, both, either}
-use Rattle.snapshot.specs.Header.{headerSize, entrySize, headerOf, accounts}
+use Rattle.snapshot.specs.Header.{headerOf, accounts}
 use Rattle.snapshot.specs.declared.accounts.Account.{Account}
 use Rattle.snapshot.specs.declared.accounts.AccountEntry.{AccountEntry}
 
@@ -45,7 +46,7 @@ dataLength e = pick (exists e) (e .length) 0
 unfoldable pub bodyValid : ℕ → ℕ → AccountEntry → Bool
 bodyValid dataAt total e =
     both (eqb (e .zero) 0)
-    (both (leb (e .length) (2 ^ 24)) (both (leb dataAt (e .start)) (leb (e .start + e .length) total)))
+    (both (leb (e .length) dataLimit) (both (leb dataAt (e .start)) (leb (e .start + e .length) total)))
 
 -- "An entry is fit if flags are 0..3 and, where it exists, .."
 unfoldable pub validWithin : ℕ → ℕ → AccountEntry → Bool
@@ -55,13 +56,9 @@ validWithin dataAt total e = both (leb (e .flags) 3) (either (not (exists e)) (b
 unfoldable pub entryValid : List ℕ → Account → Bool
 entryValid s a = validWithin (headerOf s .«data_at») (headerOf s .total) (entryOf s a)
 
--- "64 bytes of metadata", after the entry's first 16 bytes
-abbrev pub metadataSize : ℕ
-metadataSize = 64
-
 -- where the metadata starts
 abbrev pub metadataAt : Account → ℕ
-metadataAt a = entryAt a + 16
+metadataAt a = entryAt a + metadataOffset
 
 -- an account's original data
 unfoldable pub original : List ℕ → Account → List ℕ

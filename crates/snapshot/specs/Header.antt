@@ -1,24 +1,13 @@
 -- Document 01, "Three lent buffers": the header of the ground, here the snapshot s. Assumes nothing.
-use Prim.Native.Nat.{ℕ, _+_, _*_, _^_}
+use Prim.Native.Nat.{ℕ, _+_, _*_}
 use mathlib.Core.Bool.{Bool}
 use mathlib.Core.List.{List}
 use lib.ListN.{length}
 use lib.Dec.{leb, eqb}
+use Rattle.layout.specs.Snapshot.{headerSize, entrySize, contextSize, accountLimit, contextLimit, transactionLimit, snapshotLimit}
 use Rattle.words.specs.Words.{wordAt}
 use Rattle.choice.specs.Choice.{both}
 use Rattle.snapshot.specs.declared.header.Header.{Header}
-
--- "Header of eight u32": its length
-abbrev pub headerSize : ℕ
-headerSize = 32
-
--- "An account entry has 80 bytes"
-abbrev pub entrySize : ℕ
-entrySize = 80
-
--- "remainder below 120": the length of a block context
-abbrev pub contextSize : ℕ
-contextSize = 120
 
 -- "Header of eight u32: account count A, block contexts B, transaction length T, then the offsets of the account table, of the
 -- contexts, of the transaction and of the data, then the total length"
@@ -49,7 +38,7 @@ transaction s = headerOf s .transaction
 
 -- "A (0..64), block contexts B (0..512), transaction length T (0..65,536)"
 unfoldable pub countsValid : Header → Bool
-countsValid h = both (leb (h .accounts) 64) (both (leb (h .contexts) 512) (leb (h .transaction) 65536))
+countsValid h = both (leb (h .accounts) accountLimit) (both (leb (h .contexts) contextLimit) (leb (h .transaction) transactionLimit))
 
 -- "the offsets of the account table (32), of the contexts (32+80A), of the transaction (32+80A+120B) and of the data (that plus T)"
 unfoldable pub offsetsValid : Header → Bool
@@ -61,7 +50,7 @@ offsetsValid h =
 
 -- "then the total length, which equals the buffer's length, is not below the data offset and is at most 2^31"
 unfoldable pub totalValid : Header → ℕ → Bool
-totalValid h size = both (eqb (h .total) size) (both (leb (h .«data_at») (h .total)) (leb (h .total) (2 ^ 31)))
+totalValid h size = both (eqb (h .total) size) (both (leb (h .«data_at») (h .total)) (leb (h .total) snapshotLimit))
 
 -- the ground's header is fit
 unfoldable pub snapshotValid : List ℕ → Bool

@@ -1,11 +1,14 @@
 // Account entries of 80 bytes: their fields, validity, existence, data length, metadata and leave to write.
-use super::header::ENTRY;
-use super::header::HEADER;
+use layout::snapshot::ACCOUNT_DATA;
+use layout::snapshot::ACCOUNT_ENTRY;
+use layout::snapshot::METADATA_AT;
+use layout::snapshot::SNAPSHOT_HEADER;
 use words::numbers::u16_at;
 use words::numbers::u32_at;
 ghost use mathlib.Core.Path.{_≡_};
 ghost use Prim.Native.Nat.{_+_, _*_, _≤_};
 ghost use lib.ListN.{length};
+ghost use Rattle.layout.specs.Snapshot.{entrySize};
 ghost use Rattle.snapshot.specs.Accounts.{entryAt, entryOf, exists, writable, dataLength, bodyValid, validWithin, metadataAt};
 
 // An account of the snapshot, by its number.
@@ -19,15 +22,6 @@ pub struct AccountEntry {
     pub start: usize,
     pub zero: usize,
 }
-
-// The longest account data.
-const LONGEST: usize = 0x100_0000;
-
-// Where the metadata starts in an entry.
-const METADATA_AT: usize = 16;
-
-// How long the metadata is.
-pub const METADATA: usize = 64;
 
 impl AccountEntry {
     // Whether the account exists: bit 0 of the flags.
@@ -64,7 +58,7 @@ impl AccountEntry {
         if self.zero != 0 {
             return false;
         }
-        if LONGEST < self.length {
+        if ACCOUNT_DATA < self.length {
             return false;
         }
         if self.start < data_at {
@@ -94,7 +88,7 @@ impl AccountEntry {
 fn entry_at(a: Account) -> usize
     ensures { λ r. ⌜ r ≡ entryAt a ⌝ }
 {
-    HEADER + ENTRY * (a.0 as usize)
+    SNAPSHOT_HEADER + ACCOUNT_ENTRY * (a.0 as usize)
 }
 
 // Where an account's metadata starts.
@@ -106,7 +100,7 @@ pub fn metadata_at(a: Account) -> usize
 
 // An account's entry. The slice holds it whole.
 pub fn whole_account_entry(s: &[u8], a: Account) -> AccountEntry
-    requires { ⌜ entryAt a + 80 ≤ length (now s) ⌝ }
+    requires { ⌜ entryAt a + entrySize ≤ length (now s) ⌝ }
     ensures { λ r. ⌜ r ≡ entryOf (now (s .entry)) a ⌝ }
 {
     let at = entry_at(a);

@@ -1,30 +1,17 @@
 // The header of eight u32, and the rules that make a snapshot valid.
+use layout::snapshot::ACCOUNT_ENTRY;
+use layout::snapshot::ACCOUNTS;
+use layout::snapshot::CONTEXT;
+use layout::snapshot::CONTEXTS;
+use layout::snapshot::SNAPSHOT;
+use layout::snapshot::SNAPSHOT_HEADER;
+use layout::snapshot::TRANSACTION;
 use words::numbers::u32_at;
 ghost use mathlib.Core.Path.{_≡_};
 ghost use Prim.Native.Nat.{_≤_};
 ghost use lib.ListN.{length};
+ghost use Rattle.layout.specs.Snapshot.{headerSize, accountLimit, contextLimit, transactionLimit};
 ghost use Rattle.snapshot.specs.Header.{headerOf, countsValid, offsetsValid, snapshotValid};
-
-// The header's length, and so the account table's place.
-pub const HEADER: usize = 32;
-
-// The length of an account entry.
-pub const ENTRY: usize = 80;
-
-// The length of a block context.
-pub const CONTEXT: usize = 120;
-
-// The most accounts.
-const ACCOUNTS: usize = 64;
-
-// The most block contexts.
-const CONTEXTS: usize = 512;
-
-// The longest transaction.
-const TRANSACTION: usize = 65536;
-
-// The longest snapshot.
-const LONGEST: usize = 0x8000_0000;
 
 // The eight words of the header.
 pub struct Header {
@@ -40,7 +27,7 @@ pub struct Header {
 
 // The header. The slice is long enough to hold it.
 pub fn whole_header(s: &[u8]) -> Header
-    requires { ⌜ 32 ≤ length (now s) ⌝ }
+    requires { ⌜ headerSize ≤ length (now s) ⌝ }
     ensures { λ r. ⌜ r ≡ headerOf (now (s .entry)) ⌝ }
 {
     Header {
@@ -70,12 +57,12 @@ fn counts_valid(h: Header) -> bool
 
 // Whether each offset is the one that the counts give. The counts are within their limits, so no sum wraps.
 fn offsets_valid(h: Header) -> bool
-    requires { ⌜ (h .accounts ≤ 64) × (h .contexts ≤ 512) × (h .transaction ≤ 65536) ⌝ }
+    requires { ⌜ (h .accounts ≤ accountLimit) × (h .contexts ≤ contextLimit) × (h .transaction ≤ transactionLimit) ⌝ }
     ensures { λ r. ⌜ r ≡ offsetsValid h ⌝ }
 {
-    let contexts_at = HEADER + ENTRY * h.accounts;
+    let contexts_at = SNAPSHOT_HEADER + ACCOUNT_ENTRY * h.accounts;
     let transaction_at = contexts_at + CONTEXT * h.contexts;
-    if h.accounts_at != HEADER {
+    if h.accounts_at != SNAPSHOT_HEADER {
         return false;
     }
     if h.contexts_at != contexts_at {
@@ -91,7 +78,7 @@ fn offsets_valid(h: Header) -> bool
 pub fn valid(s: &[u8]) -> bool
     ensures { λ r. ⌜ r ≡ snapshotValid (now (s .entry)) ⌝ }
 {
-    if s.len() < HEADER {
+    if s.len() < SNAPSHOT_HEADER {
         return false;
     }
     let h = whole_header(s);
@@ -103,7 +90,7 @@ pub fn valid(s: &[u8]) -> bool
             if h.total < h.data_at {
                 return false;
             }
-            return h.total <= LONGEST;
+            return h.total <= SNAPSHOT;
         }
         return false;
     }

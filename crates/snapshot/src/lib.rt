@@ -2,3 +2,4 @@
 // contexts, the transaction and the accounts' data. Functions that begin `whole_` read bytes that their callers know to be there.
 pub mod accounts;
 pub mod header;
+pub mod lookup;

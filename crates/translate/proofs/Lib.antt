@@ -1,5 +1,4 @@
-pub mod Arms
+pub mod Read
 pub mod Accepted
 pub mod Stores
 pub mod Places
-pub mod Length

@@ -2,10 +2,10 @@
 use Prim.Native.Nat.{ℕ}
 use mathlib.Core.Bool.{Bool}
 use lib.Dec.{ltb, leb}
+use Rattle.layout.specs.Address.{addresses}
 use Rattle.refusal.specs.Checks.{need, _then_}
 use Rattle.refusal.specs.declared.Check.{Check}
 use Rattle.refusal.specs.declared.Refusal.the-variants.{Invalid, BadRequest, BadAddress, Absent, Misaligned, Crossing, NotPermitted}
-use Rattle.address.specs.Address.{addresses}
 use Rattle.segments.specs.Kinds.{requestValid, aligned, within}
 use Rattle.translate.specs.declared.request.Request.{Request}
 

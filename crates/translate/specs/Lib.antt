@@ -1,4 +1,5 @@
 pub mod Place
 pub mod Checks
 pub mod Translate
+pub mod Columns
 pub mod Fits

@@ -3,6 +3,7 @@ use Prim.Native.Nat.{ℕ}
 use Rattle.refusal.specs.Numbers.{numberOf, done}
 use Rattle.refusal.specs.declared.Check.{Check}
 use Rattle.refusal.specs.declared.Check.the-variants.{Pass, Stop}
+use Rattle.translate.specs.declared.place.Outcome.{Outcome}
 use Rattle.translate.specs.declared.place.Translation.{Translation}
 use Rattle.translate.specs.declared.place.Translation.the-variants.{Allowed, Refused}
 
@@ -10,6 +11,10 @@ use Rattle.translate.specs.declared.place.Translation.the-variants.{Allo
 abbrev pub numberOfAnswer : Translation → ℕ
 numberOfAnswer (Allowed q) = done
 numberOfAnswer (Refused r) = numberOf r
+
+-- what an access answers besides a value
+abbrev pub outcomeOf : Translation → Outcome
+outcomeOf t = record { number = numberOfAnswer t }
 
 -- what follows where the check passes, else its refusal
 abbrev pub refusing : Check → Translation → Translation

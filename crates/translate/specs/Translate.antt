@@ -1,23 +1,26 @@
 -- Document 01, "Addresses and segments", "Order for an access" and "Copies": translation. Assumes nothing.
-use Prim.Native.Nat.{ℕ, _+_, _-_, _*_, _/_, _%_, _<_, _^_}
+use Prim.Native.Nat.{ℕ, _+_, _-_, _*_, _/_, _%_, _<_}
 use mathlib.Core.Path.{_≡_}
 use mathlib.Core.Bool.{Bool, true, false, not}
 use mathlib.Core.List.{List}
 use lib.Dec.{ltb, leb, eqb}
+use Rattle.layout.specs.Page.{pageSize}
+use Rattle.layout.specs.Control.{shadowAt, tableAt}
+use Rattle.layout.specs.Snapshot.{contextSize, metadataSize}
+use Rattle.layout.specs.Address.{offsets}
 use Rattle.choice.specs.Choice.{pick, both, either}
 use Rattle.refusal.specs.declared.Check.{Check}
 use Rattle.refusal.specs.declared.Refusal.the-variants.{Invalid, NoSegment, NotPermitted, NoFrame}
-use Rattle.address.specs.Address.{typeOf, indexOf, offsetOf, offsets}
-use Rattle.snapshot.specs.Header.{headerOf, accounts, contexts, transaction, contextSize, snapshotValid}
-use Rattle.snapshot.specs.Accounts.{entryOf, entryValid, exists, writable, dataLength, metadataAt, metadataSize}
+use Rattle.address.specs.Address.{typeOf, indexOf, offsetOf}
+use Rattle.snapshot.specs.Header.{headerOf, accounts, contexts, transaction, snapshotValid}
+use Rattle.snapshot.specs.Accounts.{entryOf, entryValid, exists, writable, dataLength, metadataAt, known}
 use Rattle.snapshot.specs.declared.accounts.Account.{Account}
 use Rattle.snapshot.specs.declared.accounts.AccountEntry.{AccountEntry}
-use Rattle.control.specs.Control.{shadowAt, tableAt, pageSize, depth, current, controlValid, currentValid, buffersValid}
+use Rattle.control.specs.Control.{depth, current, controlValid, currentValid, buffersValid}
 use Rattle.control.specs.declared.shadow.Region.{Region}
 use Rattle.control.specs.declared.shadow.Region.the-variants as region
-use Rattle.frames.specs.Table.{frameEntryOf, frameOf, freeFrame, frameStart}
-use Rattle.frames.specs.declared.table.Page.{Page}
-use Rattle.frames.specs.declared.table.Frame.{Frame}
+use Rattle.pages.specs.Pages.{inFrame, pageOf}
+use Rattle.frames.specs.Table.{frameEntryOf, frameOf, freeFrame}
 use Rattle.frames.specs.declared.finding.Claim.the-variants.{Copy, Anonymous}
 use Rattle.frames.specs.declared.finding.Found.{Found}
 use Rattle.frames.specs.declared.finding.Found.the-variants.{At, Nothing}
@@ -32,6 +35,7 @@ use Rattle.translate.specs.Checks.{firstChecks, rowChecks}
 use Rattle.translate.specs.Place.{refusing}
 use Rattle.translate.specs.declared.request.Request.{Request}
 use Rattle.translate.specs.declared.place.Place.the-variants.{InSnapshot, InControl, Zeros, InPool, Take}
+use Rattle.translate.specs.declared.sought.Sought.{Sought}
 use Rattle.translate.specs.declared.place.Translation.{Translation}
 use Rattle.translate.specs.declared.place.Translation.the-variants.{Allowed, Refused}
 
@@ -95,30 +99,54 @@ roomOf s c Heap q = regionRoom region.Heap (current c .heap) (q .offset)
 unfoldable pub rowCheck : List ℕ → List ℕ → Presence → StoreRule → Request → Check
 rowCheck s c p rule q = rowChecks (concernedValid s c p q) (permitted (q .kind) p rule (owned s c p q)) q (roomOf s c p q)
 
+-- where the first byte stands in its buffer, frames aside: by the column "Bytes present"; a region's bytes stand in frames alone
+unfoldable pub startOf : List ℕ → List ℕ → Presence → Request → ℕ
+startOf s c Transaction q = headerOf s .«transaction_at» + q .offset
+startOf s c Shadow q = shadowAt + q .offset
+startOf s c Program q = entryOf s (program c) .start + q .offset
+startOf s c Context q = headerOf s .«contexts_at» + contextSize * (q .offset / pageSize) + q .offset % pageSize
+startOf s c Metadata q = metadataAt (indexed q) + q .offset
+startOf s c Data q = entryOf s (indexed q) .start + q .offset
+startOf s c Stack q = 0
+startOf s c Heap q = 0
+
+-- whether bytes stand there. 000: "Non-existent accounts: zeroed metadata"
+unfoldable pub standsThere : List ℕ → Presence → Request → Bool
+standsThere s Transaction q = true
+standsThere s Shadow q = true
+standsThere s Program q = true
+standsThere s Context q = true
+standsThere s Metadata q = exists (entryOf s (indexed q))
+standsThere s Data q = true
+standsThere s Stack q = true
+standsThere s Heap q = true
+
+-- what a row asks of the buffers, column by column
+unfoldable pub soughtOf : List ℕ → List ℕ → Presence → StoreRule → Request → Sought
+soughtOf s c p rule q =
+    record {
+      entry = concernedValid s c p q;
+      permitted = permitted (q .kind) p rule (owned s c p q);
+      room = roomOf s c p q;
+      there = standsThere s p q;
+      at = startOf s c p q;
+    }
+
 -- ---- the place, once every byte is present
-
--- a byte of a frame
-abbrev pub inFrame : Frame → ℕ → ℕ
-inFrame f offset = frameStart f + offset % pageSize
-
--- "offset/4,096"
-abbrev pub pageOf : ℕ → Page
-pageOf offset = record { 0 = offset / pageSize }
 
 -- "An accepted store to an account page without a frame takes the lowest free frame"; "last 8"
 abbrev pub copyPlace : Account → ℕ → Found → Translation
-copyPlace a offset (At f) = Allowed (Take (inFrame f offset) f a (pageOf offset))
+copyPlace a offset (At f) = Allowed (Take (record { at = inFrame f offset; frame = f; account = a; page = pageOf offset }))
 copyPlace a offset Nothing = Refused NoFrame
 
--- "A page with a frame is stored to in that frame. Later loads in type 3 and views read the frame"
+-- "A page with a frame is stored to in that frame. Later loads in type 3 and views read the frame"; without one the original is read
 abbrev pub dataPlaceIn : List ℕ → ℕ → Account → ℕ → ℕ → Found → Translation
-dataPlaceIn c kind a start offset (At f) = Allowed (InPool (inFrame f offset))
-dataPlaceIn c kind a start offset Nothing =
-    pick (isStore kind) (copyPlace a offset (freeFrame c)) (Allowed (InSnapshot (start + offset)))
+dataPlaceIn c kind a offset at (At f) = Allowed (InPool (inFrame f offset))
+dataPlaceIn c kind a offset at Nothing = pick (isStore kind) (copyPlace a offset (freeFrame c)) (Allowed (InSnapshot at))
 
 -- the same, with the frame that the table names
 unfoldable pub dataPlace : List ℕ → ℕ → Account → ℕ → ℕ → Translation
-dataPlace c kind a start offset = dataPlaceIn c kind a start offset (frameOf c (Copy a (pageOf offset)))
+dataPlace c kind a offset at = dataPlaceIn c kind a offset at (frameOf c (Copy a (pageOf offset)))
 
 -- "for stack and heap 1 if no frame claims the page, 7 by tag for a store"; "tag at or above the depth"
 abbrev pub regionPlaceIn : List ℕ → ℕ → ℕ → Found → Translation
@@ -135,16 +163,18 @@ abbrev pub presenceOf : Region → Presence
 presenceOf region.Stack = Stack
 presenceOf region.Heap = Heap
 
--- where the first byte stands, by the column "Bytes present". 000: "Non-existent accounts: zeroed metadata"
+-- bytes of the snapshot, or zeros where none stand there
+abbrev pub snapshotPlace : Bool → ℕ → Translation
+snapshotPlace there at = pick there (Allowed (InSnapshot at)) (Allowed Zeros)
+
+-- where it stands, with the frame that holds its page
 unfoldable pub placeOf : List ℕ → List ℕ → Presence → Request → Translation
-placeOf s c Transaction q = Allowed (InSnapshot (headerOf s .«transaction_at» + q .offset))
-placeOf s c Shadow q = Allowed (InControl (shadowAt + q .offset))
-placeOf s c Program q = Allowed (InSnapshot (entryOf s (program c) .start + q .offset))
-placeOf s c Context q =
-    Allowed (InSnapshot (headerOf s .«contexts_at» + contextSize * (q .offset / pageSize) + q .offset % pageSize))
-placeOf s c Metadata q =
-    pick (exists (entryOf s (indexed q))) (Allowed (InSnapshot (metadataAt (indexed q) + q .offset))) (Allowed Zeros)
-placeOf s c Data q = dataPlace c (q .kind) (indexed q) (entryOf s (indexed q) .start) (q .offset)
+placeOf s c Transaction q = Allowed (InSnapshot (startOf s c Transaction q))
+placeOf s c Shadow q = Allowed (InControl (startOf s c Shadow q))
+placeOf s c Program q = Allowed (InSnapshot (startOf s c Program q))
+placeOf s c Context q = Allowed (InSnapshot (startOf s c Context q))
+placeOf s c Metadata q = snapshotPlace (standsThere s Metadata q) (startOf s c Metadata q)
+placeOf s c Data q = dataPlace c (q .kind) (indexed q) (q .offset) (startOf s c Data q)
 placeOf s c Stack q = regionPlace c region.Stack (q .kind) (q .offset)
 placeOf s c Heap q = regionPlace c region.Heap (q .kind) (q .offset)
 
@@ -167,10 +197,21 @@ translateOf s c p kind a n =
     (inSegment s c (rowOf rules (typeOf a) (indexOf a) (accounts s))
     (record { kind = kind; index = indexOf a; offset = offsetOf a; length = n }))
 
+-- the account that a segment's index names is below A: "4" has been asked
+abbrev pub Named : List ℕ → Presence → Request → Type 0
+Named s Transaction q = Unit {0}
+Named s Shadow q = Unit {0}
+Named s Program q = Unit {0}
+Named s Context q = Unit {0}
+Named s Metadata q = known s (indexed q) ≡ true
+Named s Data q = known s (indexed q) ≡ true
+Named s Stack q = Unit {0}
+Named s Heap q = Unit {0}
+
 -- what is known once the first tests have passed
 pub record Ready (s c : List ℕ) (q : Request) : Type 0 where
   pub snapshot : snapshotValid s ≡ true
   pub control : controlValid c ≡ true
   pub current : currentValid c (accounts s) ≡ true
   pub request : requestValid (q .kind) (q .length) ≡ true
-  pub offset : q .offset < 2 ^ 24
+  pub offset : q .offset < offsets

@@ -1,6 +1,7 @@
 // The tests of an access in their order, on plain numbers.
 use super::request::Request;
 use address::Address;
+use layout::address::ADDRESSES;
 use refusal::Check;
 use refusal::Refusal;
 use segments::kinds::aligned;
@@ -11,23 +12,20 @@ ghost use mathlib.Core.Bool.{true};
 ghost use Rattle.segments.specs.Kinds.{requestValid};
 ghost use Rattle.translate.specs.Checks.{firstChecks, rowChecks};
 
-// Addresses lie below this.
-const ADDRESSES: u64 = 0x1_0000_0000_0000;
-
 // The tests before the segment is known: the buffers, the request, the upper bits.
 pub fn first_checks(buffers: bool, kind: u8, a: Address, n: usize) -> Check
     ensures { λ r. ⌜ r ≡ firstChecks buffers kind (a .0) n ⌝ }
 {
-    if buffers {
-        if request_valid(kind, n) {
-            if a.0 < ADDRESSES {
-                return Check::Pass;
-            }
-            return Check::Stop(Refusal::BadAddress);
-        }
+    if buffers {} else {
+        return Check::Stop(Refusal::Invalid);
+    }
+    if request_valid(kind, n) {} else {
         return Check::Stop(Refusal::BadRequest);
     }
-    Check::Stop(Refusal::Invalid)
+    if a.0 < ADDRESSES {} else {
+        return Check::Stop(Refusal::BadAddress);
+    }
+    Check::Pass
 }
 
 // The tests once the segment is known, up to presence: the account's entry, alignment, permission, the page's end, presence.
@@ -35,20 +33,20 @@ pub fn row_checks(entry: bool, permitted: bool, q: Request, room: usize) -> Chec
     requires { ⌜ requestValid (q .kind) (q .length) ≡ true ⌝ }
     ensures { λ r. ⌜ r ≡ rowChecks entry permitted q room ⌝ }
 {
-    if entry {
-        if aligned(q.kind, q.offset, q.length) {
-            if permitted {
-                if within(q.offset, q.length) {
-                    if q.length <= room {
-                        return Check::Pass;
-                    }
-                    return Check::Stop(Refusal::Absent);
-                }
-                return Check::Stop(Refusal::Crossing);
-            }
-            return Check::Stop(Refusal::NotPermitted);
-        }
+    if entry {} else {
+        return Check::Stop(Refusal::Invalid);
+    }
+    if aligned(q.kind, q.offset, q.length) {} else {
         return Check::Stop(Refusal::Misaligned);
     }
-    Check::Stop(Refusal::Invalid)
+    if permitted {} else {
+        return Check::Stop(Refusal::NotPermitted);
+    }
+    if within(q.offset, q.length) {} else {
+        return Check::Stop(Refusal::Crossing);
+    }
+    if q.length <= room {} else {
+        return Check::Stop(Refusal::Absent);
+    }
+    Check::Pass
 }

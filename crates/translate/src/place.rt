@@ -1,14 +1,20 @@
 // What translation answers.
-use frames::table::Frame;
-use frames::table::Page;
-use refusal::Check;
+use pages::Frame;
+use pages::Page;
 use refusal::DONE;
 use refusal::Refusal;
 use refusal::number;
 use snapshot::accounts::Account;
 ghost use mathlib.Core.Path.{_≡_};
-ghost use Rattle.translate.specs.Place.{numberOfAnswer, refusing};
-ghost use Rattle.translate.specs.declared.place.Translation.the-variants.{Allowed};
+ghost use Rattle.translate.specs.Place.{outcomeOf};
+
+// A frame that is to be taken for a copy of an account's page, and where the access's first byte stands in the pool then.
+pub struct NewCopy {
+    pub at: usize,
+    pub frame: Frame,
+    pub account: Account,
+    pub page: Page,
+}
 
 // Where the first byte of an access stands.
 pub enum Place {
@@ -20,13 +26,8 @@ pub enum Place {
     Zeros,
     // in the pool, from its start
     InPool(usize),
-    // in the pool once this frame is taken for a copy of the account's page
-    Take {
-        at: usize,
-        frame: Frame,
-        account: Account,
-        page: Page,
-    },
+    // in the pool once a copy is made
+    Take(NewCopy),
 }
 
 // A place, or the first refusal in the order of document 01.
@@ -35,22 +36,17 @@ pub enum Translation {
     Refused(Refusal),
 }
 
-// The number given back for a translation.
-pub fn number_of(t: Translation) -> u8
-    ensures { λ n. ⌜ n ≡ numberOfAnswer t ⌝ }
-{
-    match t {
-        Translation::Allowed(_) => DONE,
-        Translation::Refused(r) => number(r),
-    }
+// What every access answers besides a value: its number.
+pub struct Outcome {
+    pub number: u8,
 }
 
-// The place where the check passes, else its refusal.
-pub fn settle(check: Check, place: Place) -> Translation
-    ensures { λ r. ⌜ r ≡ refusing check (Allowed place) ⌝ }
+// What an access answers for a translation.
+pub fn outcome_of(t: Translation) -> Outcome
+    ensures { λ r. ⌜ r ≡ outcomeOf t ⌝ }
 {
-    match check {
-        Check::Pass => Translation::Allowed(place),
-        Check::Stop(r) => Translation::Refused(r),
+    match t {
+        Translation::Allowed(_) => Outcome { number: DONE },
+        Translation::Refused(r) => Outcome { number: number(r) },
     }
 }

@@ -1,6 +1,9 @@
 -- Buffers for the trials on accesses. Assumes nothing.
-use Prim.Native.Nat.{ℕ, _+_, _*_}
+use Prim.Native.Nat.{ℕ, _+_, _-_, _*_}
 use mathlib.Core.List.{List, [], _++_}
+use Rattle.layout.specs.Snapshot.{headerSize, entrySize, contextSize, metadataSize}
+use Rattle.layout.specs.Page.{pageLimit, poolLength}
+use Rattle.layout.specs.Control.{shadowAt, shadowSize, registersSize, liveLimit, tableAt, usageStack, usageHeap}
 use Rattle.words.specs.Words.{wordBytes, zeros}
 use Rattle.control.specs.Control.{invocationBytes}
 use Rattle.frames.specs.Table.{frameEntryBytes}
@@ -13,30 +16,34 @@ pub record Setting : Type 0 where
 
 -- an account entry with metadata of zeros
 unfoldable pub entryBytes : ℕ → ℕ → ℕ → ℕ → List ℕ
-entryBytes flags owner size start = wordBytes 2 flags ++ (wordBytes 2 owner ++ (wordBytes 4 size ++ (wordBytes 4 start ++ zeros 68)))
+entryBytes flags owner size start = wordBytes 2 flags ++ (wordBytes 2 owner ++ (wordBytes 4 size ++ (wordBytes 4 start ++ zeros (4 + metadataSize))))
+
+-- where the contexts start with six accounts
+abbrev pub contextsStart : ℕ
+contextsStart = headerSize + entrySize * 6
 
 -- where the data starts with six accounts, b contexts and a transaction of 72 bytes
 abbrev pub dataStart : ℕ → ℕ
-dataStart b = 32 + 80 * 6 + 120 * b + 72
+dataStart b = contextsStart + contextSize * b + 72
 
 -- the snapshot's header, with n bytes of data
 unfoldable pub snapshotHeader : ℕ → ℕ → List ℕ
 snapshotHeader b n =
-    wordBytes 4 6 ++ (wordBytes 4 b ++ (wordBytes 4 72 ++ (wordBytes 4 32 ++ (wordBytes 4 (32 + 80 * 6) ++ (wordBytes 4 (32 + 80 * 6 + 120 * b)
+    wordBytes 4 6 ++ (wordBytes 4 b ++ (wordBytes 4 72 ++ (wordBytes 4 headerSize ++ (wordBytes 4 contextsStart ++ (wordBytes 4 (contextsStart + contextSize * b)
     ++ (wordBytes 4 (dataStart b) ++ wordBytes 4 (dataStart b + n)))))))
 
 -- six accounts: account 0 is the program, accounts 1 to 4 do not exist, account 5 is writable, is owned by account 0 and has n bytes
 unfoldable pub snapshotWith : ℕ → ℕ → List ℕ
 snapshotWith b n =
     snapshotHeader b n
-    ++ (entryBytes 1 0 0 (dataStart b) ++ (zeros (80 * 4) ++ (entryBytes 3 0 n (dataStart b) ++ zeros (120 * b + 72 + n))))
+    ++ (entryBytes 1 0 0 (dataStart b) ++ (zeros (entrySize * 4) ++ (entryBytes 3 0 n (dataStart b) ++ zeros (contextSize * b + 72 + n))))
 
 -- one invocation of account 0 with these sizes, over a frame table of f entries
 unfoldable pub controlWith : ℕ → ℕ → ℕ → List ℕ → List ℕ
 controlWith f stack heap table =
-    wordBytes 4 f ++ (wordBytes 4 1 ++ (wordBytes 4 16 ++ (wordBytes 4 4504
-    ++ (zeros 264
-    ++ (invocationBytes (record { program = record { 0 = 0 }; stack = stack; heap = heap }) (zeros 256) ++ (zeros (264 * 15) ++ table))))))
+    wordBytes 4 f ++ (wordBytes 4 1 ++ (wordBytes 4 shadowAt ++ (wordBytes 4 tableAt
+    ++ (zeros shadowSize
+    ++ (invocationBytes (record { program = record { 0 = 0 }; stack = stack; heap = heap }) (zeros registersSize) ++ (zeros (shadowSize * (liveLimit - 1)) ++ table))))))
 
 -- "Account data of 6,000 bytes", one block context, no frame
 unfoldable pub plain : Setting
@@ -49,7 +56,7 @@ onePage =
       snapshot = snapshotWith 1 0;
       control =
           controlWith 2 1 1
-          (frameEntryBytes (record { usage = 2; tag = 0; account = record { 0 = 0 }; page = record { 0 = 4095 }; zero = 0 })
-          ++ frameEntryBytes (record { usage = 3; tag = 0; account = record { 0 = 0 }; page = record { 0 = 0 }; zero = 0 }));
-      pool = zeros (4096 * 2);
+          (frameEntryBytes (record { usage = usageStack; tag = 0; account = record { 0 = 0 }; page = record { 0 = pageLimit - 1 }; zero = 0 })
+          ++ frameEntryBytes (record { usage = usageHeap; tag = 0; account = record { 0 = 0 }; page = record { 0 = 0 }; zero = 0 }));
+      pool = zeros (poolLength 2);
     }

@@ -1,5 +1,5 @@
 -- Document 01, "Change list and page view": the page view. Assumes nothing.
-use Prim.Native.Nat.{ℕ, _+_, _*_}
+use Prim.Native.Nat.{ℕ, _+_}
 use mathlib.Core.List.{List, []}
 use lib.Dec.{leb}
 use Rattle.words.specs.Words.{bytesAt}
@@ -7,16 +7,18 @@ use Rattle.refusal.specs.Numbers.{numberOf, done}
 use Rattle.refusal.specs.Checks.{need, _then_}
 use Rattle.refusal.specs.declared.Check.{Check}
 use Rattle.refusal.specs.declared.Check.the-variants.{Pass, Stop}
-use Rattle.refusal.specs.declared.Refusal.the-variants.{Invalid, NoSegment, Absent}
-use Rattle.snapshot.specs.Accounts.{known, entryOf, entryValid}
+use Rattle.refusal.specs.declared.Refusal.the-variants.{Invalid, Absent}
+use Rattle.snapshot.specs.Accounts.{entryOf, dataLength}
+use Rattle.snapshot.specs.Lookup.{accountCheck}
+use Rattle.snapshot.specs.declared.accounts.AccountEntry.{AccountEntry}
 use Rattle.snapshot.specs.declared.accounts.Account.{Account}
-use Rattle.control.specs.Control.{pageSize, buffersValid}
-use Rattle.frames.specs.Table.{frameOf, frameStart}
-use Rattle.frames.specs.declared.table.Page.{Page}
+use Rattle.control.specs.Control.{buffersValid}
+use Rattle.pages.specs.Pages.{pageStart, frameStart, liveOf, live}
+use Rattle.pages.specs.declared.Page.{Page}
+use Rattle.frames.specs.Table.{frameOf}
 use Rattle.frames.specs.declared.finding.Claim.the-variants.{Copy}
 use Rattle.frames.specs.declared.finding.Found.{Found}
 use Rattle.frames.specs.declared.finding.Found.the-variants.{At, Nothing}
-use Rattle.access.specs.Pages.{live}
 use Rattle.view.specs.declared.View.{View}
 use Rattle.view.specs.declared.View.the-variants.{InSnapshot, InPool, Refused}
 
@@ -24,23 +26,26 @@ use Rattle.view.specs.declared.View.the-variants.{InSnapshot, InPool, Re
 unfoldable pub viewCheck : List ℕ → List ℕ → List ℕ → Account → Page → Check
 viewCheck s c p a q =
     need (buffersValid s c p) Invalid
-    then need (known s a) NoSegment
-    then need (entryValid s a) Invalid
+    then accountCheck s a
     then need (leb 1 (live s a q)) Absent
 
 -- "the live bytes of an account page as a part of the ground or of the pool"
-abbrev pub viewIn : List ℕ → Account → Page → Found → View
-viewIn s a q (At f) = InPool (frameStart f) (live s a q)
-viewIn s a q Nothing = InSnapshot (entryOf s a .start + pageSize * q .0) (live s a q)
+abbrev pub viewIn : AccountEntry → Page → Found → View
+viewIn e q (At f) = InPool (frameStart f) (liveOf (dataLength e) q)
+viewIn e q Nothing = InSnapshot (e .start + pageStart q) (liveOf (dataLength e) q)
 
 -- a view, or a refusal
 abbrev pub orRefused : Check → View → View
 orRefused Pass v = v
 orRefused (Stop r) v = Refused r
 
+-- the last test and the view, of an account's entry: the inner function's
+unfoldable pub viewOfEntry : List ℕ → Account → Page → AccountEntry → View
+viewOfEntry c a q e = orRefused (need (leb 1 (liveOf (dataLength e) q)) Absent) (viewIn e q (frameOf c (Copy a q)))
+
 -- the page view
 unfoldable pub viewOf : List ℕ → List ℕ → List ℕ → Account → Page → View
-viewOf s c p a q = orRefused (viewCheck s c p a q) (viewIn s a q (frameOf c (Copy a q)))
+viewOf s c p a q = orRefused (viewCheck s c p a q) (viewIn (entryOf s a) q (frameOf c (Copy a q)))
 
 -- "Its number is asked for separately"
 abbrev pub viewNumber : View → ℕ

@@ -1,19 +1,24 @@
 // The view of an account's page: the part of the snapshot or of the pool that holds its live bytes now.
-use access::pages::live_bytes;
 use control::buffers::buffers_valid;
 use frames::finding::Claim;
 use frames::finding::Found;
 use frames::finding::frame_of;
-use frames::table::Page;
-use refusal::Check;
+use pages::Page;
+use pages::frame_start;
+use pages::live_bytes;
+use pages::page_start;
 use refusal::DONE;
 use refusal::Refusal;
 use refusal::number;
 use snapshot::accounts::Account;
-use snapshot::accounts::whole_account_entry;
-use snapshot::header::whole_header;
+use snapshot::accounts::AccountEntry;
+use snapshot::lookup::Lookup;
+use snapshot::lookup::look_up;
 ghost use mathlib.Core.Path.{_≡_};
-ghost use Rattle.view.specs.View.{viewCheck, viewOf, viewNumber, viewBytes};
+ghost use mathlib.Core.Bool.{true};
+ghost use Prim.Native.Nat.{_<_};
+ghost use Rattle.control.specs.Control.{controlValid};
+ghost use Rattle.view.specs.View.{viewOfEntry, viewOf, viewNumber, viewBytes};
 
 // Where a page's live bytes lie: a start and a length in the snapshot or in the pool.
 pub enum View {
@@ -22,43 +27,31 @@ pub enum View {
     Refused(Refusal),
 }
 
-// The length of a page.
-const PAGE: usize = 4096;
-
-// The tests of a view, in order.
-fn view_check(s: &[u8], c: &[u8], pool: &[u8], a: Account, page: Page) -> Check
-    ensures { λ r. ⌜ r ≡ viewCheck (now (s .entry)) (now (c .entry)) (now (pool .entry)) a page ⌝ }
+// The view of a page, its account's entry being valid.
+fn view_in(c: &[u8], a: Account, page: Page, e: AccountEntry) -> View
+    requires { ⌜ (controlValid (now c) ≡ true) × (e .start < 4294967296) ⌝ }
+    ensures { λ r. ⌜ r ≡ viewOfEntry (now (c .entry)) a page e ⌝ }
 {
-    if buffers_valid(s, c, pool) {
-        let h = whole_header(s);
-        if (a.0 as usize) < h.accounts {
-            let e = whole_account_entry(s, a);
-            if e.valid(h.data_at, h.total) {
-                if 1 <= live_bytes(e.data_length(), page) {
-                    return Check::Pass;
-                }
-                return Check::Stop(Refusal::Absent);
-            }
-            return Check::Stop(Refusal::Invalid);
-        }
-        return Check::Stop(Refusal::NoSegment);
+    let live = live_bytes(e.data_length(), page);
+    if live < 1 {
+        return View::Refused(Refusal::Absent);
     }
-    Check::Stop(Refusal::Invalid)
+    match frame_of(c, Claim::Copy(a, page)) {
+        Found::At(f) => View::InPool(frame_start(f), live),
+        Found::Nothing => View::InSnapshot(e.start + page_start(page), live),
+    }
 }
 
 // Where the page's live bytes lie now, or why there is no view.
 pub fn find_view(s: &[u8], c: &[u8], pool: &[u8], a: Account, page: Page) -> View
     ensures { λ r. ⌜ r ≡ viewOf (now (s .entry)) (now (c .entry)) (now (pool .entry)) a page ⌝ }
 {
-    let check = view_check(s, c, pool, a, page);
-    if let Check::Stop(r) = check {
-        return View::Refused(r);
+    if buffers_valid(s, c, pool) {} else {
+        return View::Refused(Refusal::Invalid);
     }
-    let e = whole_account_entry(s, a);
-    let live = live_bytes(e.data_length(), page);
-    match frame_of(c, Claim::Copy(a, page)) {
-        Found::At(f) => View::InPool(PAGE * (f.0 as usize), live),
-        Found::Nothing => View::InSnapshot(e.start + PAGE * (page.0 as usize), live),
+    match look_up(s, a) {
+        Lookup::Valid(e) => view_in(c, a, page, e),
+        Lookup::Refused(r) => View::Refused(r),
     }
 }
 

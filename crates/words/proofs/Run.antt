@@ -101,3 +101,9 @@ getD-zeros (suc n) (suc k) = getD-zeros n k
 pub run-past : (n : ℕ) (s : List ℕ) (at : ℕ) → length s ≤ at → bytesAt n s at ≡ zeros n
 run-past n s at h =
     run-is n s at (zeros n) (length-zeros n) (λ k l. List·getD-eq-default s 0 (omega arith) ∙ sym (getD-zeros n k))
+
+-- bytes for the whole of a list replace it
+pub splice-whole : (s bs : List ℕ) → length bs ≡ length s → splice s 0 bs ≡ bs
+splice-whole s bs h =
+    let e : length (splice s 0 bs) ≡ length bs = length-splice s 0 bs ∙ sym h in
+    rw e at (sym (run-all (splice s 0 bs))) ∙ run-back s 0 bs (omega arith)

@@ -1,11 +1,10 @@
 // Runs of bytes: copied and cleared.
+use layout::page::PAGE;
 ghost use mathlib.Core.Path.{_≡_};
 ghost use Prim.Native.Nat.{_+_, _≤_};
 ghost use lib.ListN.{length, take};
+ghost use Rattle.layout.specs.Page.{pageSize};
 ghost use Rattle.words.specs.Words.{splice, bytesAt, zeros};
-
-// The most bytes that one copy moves: a page.
-pub const PAGE: usize = 4096;
 
 // Puts the first n of the bytes in at `to`. From a local array, with a constant n, this is one store.
 pub fn put(dst: &mut [u8], to: usize, bytes: &[u8], n: usize)
@@ -22,10 +21,10 @@ pub fn put(dst: &mut [u8], to: usize, bytes: &[u8], n: usize)
 // Copies n bytes of src from `from` on into dst at `to`. By way of an array, the two loops compile to one memmove; a loop from
 // slice to slice does not, since the two might overlap for all that the compiler knows.
 pub fn copy(dst: &mut [u8], to: usize, src: &[u8], from: usize, n: usize)
-    requires { ⌜ (n ≤ 4096) × (to + n ≤ length (now dst)) × (from + n ≤ length (now src)) ⌝ }
+    requires { ⌜ (n ≤ pageSize) × (to + n ≤ length (now dst)) × (from + n ≤ length (now src)) ⌝ }
     ensures { λ _. ⌜ now (dst .exit) ≡ splice (now (dst .entry)) to (bytesAt n (now (src .entry)) from) ⌝ }
 {
-    let mut page = [0u8; 4096];
+    let mut page = [0u8; PAGE];
     let mut i = 0;
     while i < n {
         page[i] = src[from + i];

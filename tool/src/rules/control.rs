@@ -25,7 +25,8 @@ pub fn broken(control: &[u8]) -> Vec<Broken> {
     findings.equal(12, "the offset of the frame table", FRAME_TABLE as u64, header.table_at);
     if header.frames as usize <= MAX_FRAMES {
         let length = control_len(header.frames as usize) as u64;
-        findings.equal(control.len(), "the length, 4504 + 8 * frames,", length, control.len() as u64);
+        let rule = format!("the length, {FRAME_TABLE} + {FRAME_ENTRY} * frames,");
+        findings.equal(control.len(), &rule, length, control.len() as u64);
     }
     if (1..=MAX_INVOCATIONS).contains(&(header.invocations as usize)) {
         current(&mut findings, control, header.invocations as usize);

@@ -23,8 +23,10 @@ pub fn broken(list: &[u8], target: Option<Target>) -> Vec<Broken> {
     };
     let pages = header.pages as usize;
     findings.equal(4, "the entries' offset", LIST_HEADER as u64, header.entries_at);
-    findings.equal(8, "the pages' offset, 16 + 8 * pages,", (LIST_HEADER + LIST_ENTRY * pages) as u64, header.pages_at);
-    findings.equal(12, "the total, 16 + 4104 * pages,", change_list_len(pages) as u64, header.total);
+    let offset = format!("the pages' offset, {LIST_HEADER} + {LIST_ENTRY} * pages,");
+    findings.equal(8, &offset, (LIST_HEADER + LIST_ENTRY * pages) as u64, header.pages_at);
+    let total = format!("the total, {LIST_HEADER} + {} * pages,", LIST_ENTRY + PAGE);
+    findings.equal(12, &total, change_list_len(pages) as u64, header.total);
     findings.at_most(12, "in a file of this length the total", list.len(), header.total);
     // With a wrong header nobody knows how many entries there are.
     if findings.0.is_empty() {

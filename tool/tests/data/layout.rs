@@ -46,7 +46,7 @@ pub const CONTROL_HEADER: usize = 16;
 pub const RECORD: usize = 264;
 pub const RECORDS: usize = MAX_INVOCATIONS + 1;
 pub const REGISTERS: usize = 32;
-pub const FRAME_TABLE: usize = 4_504;
+pub const FRAME_TABLE: usize = CONTROL_HEADER + RECORD * RECORDS;
 pub const FRAME_ENTRY: usize = 8;
 
 /// Where the words of a control block's header stand.

@@ -4,6 +4,8 @@ use crate::table::Report;
 use crate::timing::repeat;
 use crate::world::{slot, World, SLOTS_PAGES};
 use crate::{library, plain, plain_bulk};
+use hekthumar::layout::FRAME_TABLE;
+use hekthumar::{change_list_len, control_len};
 use std::hint::black_box;
 
 const PAGE: usize = 4096;
@@ -31,7 +33,7 @@ pub fn spans(report: &mut Report) {
 
 /// The first frame's entry made free again, so that the next store takes a copy.
 fn forget(control: &mut [u8]) {
-    control[4504..4512].fill(0);
+    control[FRAME_TABLE..control_len(1)].fill(0);
 }
 
 pub fn copies(report: &mut Report) {
@@ -77,7 +79,7 @@ pub fn resizes(report: &mut Report) {
 }
 
 fn list_rows(report: &mut Report, name: &str, world: &World, pages: usize) {
-    let mut one = vec![0; 16 + 4104 * pages];
+    let mut one = vec![0; change_list_len(pages)];
     let mut two = one.clone();
     report.row(
         &format!("change list of {name}"),
@@ -132,7 +134,7 @@ pub fn against_copy(report: &mut Report) {
     );
     for pages in [64, 1024] {
         let full = World::begun(pages).copied(0..pages);
-        let mut list = vec![0; 16 + 4104 * pages];
+        let mut list = vec![0; change_list_len(pages)];
         report.row(
             &format!("change list of {pages} pages"),
             &mut |n| repeat(n, || library::change_list(&full.s, &full.c, &full.p, &mut list)),

@@ -8,7 +8,7 @@ use hekthumar::Kind;
 pub const PAGE: usize = 4096;
 const RECORDS: usize = 16;
 const RECORD: usize = 264;
-pub const TABLE: usize = 4504;
+pub const TABLE: usize = RECORDS + 17 * RECORD;
 const ENTRY: usize = 80;
 pub const MAX_DATA: usize = 1 << 24;
 

@@ -4,6 +4,7 @@ use crate::plain::{account, number, vm, MAX_DATA, PAGE, TABLE};
 use crate::plain_words::{put_u16, put_u32, u16_at, u32_at};
 
 const HEADER: usize = 16;
+const ENTRY: usize = 8;
 
 /// The page that is the i-th from the region's fixed end: the stack grows down from the top, the heap up from 0.
 fn page_at(region: u8, i: usize) -> usize {
@@ -112,12 +113,12 @@ fn try_change_list(s: &[u8], c: &[u8], p: &[u8], out: &mut [u8]) -> Result<(), u
     if keys.windows(2).any(|w| w[0] >> 16 == w[1] >> 16) {
         return Err(1);
     }
-    let total = HEADER + 4104 * n;
+    let total = HEADER + (ENTRY + PAGE) * n;
     let out = out.get_mut(..total).ok_or(11)?;
-    for (i, word) in [n, HEADER, HEADER + 8 * n, total].into_iter().enumerate() {
+    for (i, word) in [n, HEADER, HEADER + ENTRY * n, total].into_iter().enumerate() {
         put_u32(out, 4 * i, word as u32);
     }
-    let (head, pages) = out.split_at_mut(HEADER + 8 * n);
+    let (head, pages) = out.split_at_mut(HEADER + ENTRY * n);
     let entries = head[HEADER..].chunks_exact_mut(8);
     for (((entry, target), key), live) in entries.zip(pages.chunks_exact_mut(PAGE)).zip(keys).zip(live) {
         put_u16(entry, 0, (key >> 32) as u16);
@@ -133,7 +134,7 @@ fn try_change_list(s: &[u8], c: &[u8], p: &[u8], out: &mut [u8]) -> Result<(), u
 /// Whether the list has the layout that applying asks for.
 fn list_good(list: &[u8], n: usize, account: u16, data_len: usize) -> bool {
     let mut last = None;
-    list[HEADER..HEADER + 8 * n].chunks_exact(8).all(|e| {
+    list[HEADER..HEADER + ENTRY * n].chunks_exact(8).all(|e| {
         let (index, page, live) = (u16_at(e, 0), u16_at(e, 2), u32_at(e, 4) as usize);
         let key = Some((index, page));
         let ascends = last < key;
@@ -151,12 +152,12 @@ pub fn apply(list: &[u8], account: u16, data: &mut [u8]) -> u8 {
 fn try_apply(list: &[u8], account: u16, data: &mut [u8]) -> Result<(), u8> {
     let h: &[u8; HEADER] = list.first_chunk().ok_or(12)?;
     let n = u32_at(h, 0) as usize;
-    let total = HEADER + 4104 * n;
-    let layout = u32_at(h, 4) as usize == HEADER && u32_at(h, 8) as usize == HEADER + 8 * n && u32_at(h, 12) as usize == total;
+    let total = HEADER + (ENTRY + PAGE) * n;
+    let layout = u32_at(h, 4) as usize == HEADER && u32_at(h, 8) as usize == HEADER + ENTRY * n && u32_at(h, 12) as usize == total;
     if !layout || list.len() < total || !list_good(list, n, account, data.len()) {
         return Err(12);
     }
-    let (head, pages) = list.split_at(HEADER + 8 * n);
+    let (head, pages) = list.split_at(HEADER + ENTRY * n);
     for (e, page) in head[HEADER..].chunks_exact(8).zip(pages.chunks_exact(PAGE)) {
         if u16_at(e, 0) == account {
             let (at, live) = (PAGE * u16_at(e, 2) as usize, u32_at(e, 4) as usize);

@@ -2,6 +2,7 @@
 
 use crate::library;
 use crate::plain_words::{put_u16, put_u32};
+use hekthumar::{control_len, pool_len};
 
 pub const SLOTS_PAGES: usize = 1024;
 const PAGE: usize = 4096;
@@ -49,7 +50,7 @@ fn snapshot() -> Vec<u8> {
 impl World {
     /// A begun program with so many frames.
     pub fn begun(frames: usize) -> World {
-        let mut w = World { s: snapshot(), c: vec![0; 4504 + 8 * frames], p: vec![0; PAGE * frames] };
+        let mut w = World { s: snapshot(), c: vec![0; control_len(frames)], p: vec![0; pool_len(frames)] };
         assert_eq!(library::begin(&w.s, &mut w.c, &w.p, 0), 0);
         w
     }

@@ -13,10 +13,10 @@ pub const CONTEXT: usize = 120;
 pub const RECORDS_AT: usize = 16;
 pub const RECORD: usize = 264;
 pub const REGISTERS: usize = 256;
-pub const TABLE_AT: usize = 4504;
+pub const MAX_LIVE: usize = 16;
+pub const TABLE_AT: usize = RECORDS_AT + RECORD * (MAX_LIVE + 1);
 pub const FRAME_ENTRY: usize = 8;
 pub const MAX_FRAMES: usize = 1024;
-pub const MAX_LIVE: usize = 16;
 
 pub const FREE: u8 = 0;
 pub const COPY: u8 = 1;
@@ -25,6 +25,13 @@ pub const HEAP: u8 = 3;
 
 pub const LIST_HEADER: usize = 16;
 pub const LIST_ENTRY: usize = 8;
+
+/// The last three words of a change list's header: "16, 16+8n, total 16+4,104n".
+pub fn list_words(count: u64) -> [u64; 3] {
+    let entries = LIST_ENTRY as u64 * count;
+    let header = LIST_HEADER as u64;
+    [header, header + entries, header + entries + PAGE as u64 * count]
+}
 
 pub fn number(bytes: &[u8]) -> u64 {
     bytes.iter().rev().fold(0, |value, &byte| value << 8 | u64::from(byte))

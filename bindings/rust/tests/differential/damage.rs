@@ -40,7 +40,7 @@ pub fn lasting(random: &Random, world: &mut World) {
 /// Any damage; it is undone after the call.
 pub fn passing(random: &Random, world: &mut World) {
     match random.below(9) {
-        0 => header_word(random, &mut world.control, 4, &[0, 1, 16, 17, 4504, 1025]),
+        0 => header_word(random, &mut world.control, 4, &[0, 1, 16, 17, TABLE_AT as u32, 1025]),
         1 => header_word(random, &mut world.snapshot, 8, &[0, 64, 65, 513, 65_537, 0x8000_0001]),
         2 => bad_record(random, world),
         3 => {

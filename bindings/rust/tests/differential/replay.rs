@@ -141,7 +141,7 @@ impl Replay {
     /// "an entry for each page of the set and no other, and for each the plain copy's live bytes, then zeros"
     fn list(&self) -> Vec<u8> {
         let count = self.touched.len();
-        let words = [count, LIST_HEADER, 16 + 8 * count, 16 + 4104 * count];
+        let words = [&[count as u64], &list_words(count as u64)[..]].concat();
         let mut list: Vec<u8> = words.iter().flat_map(|&word| (word as u32).to_le_bytes()).collect();
         let mut pages = vec![];
         for &(account, page) in &self.touched {

@@ -6,11 +6,11 @@ use mathlib.Core.Bool.{Bool, true, false}
 use mathlib.Core.List.{List}
 use lib.ListN.{length}
 use borrow.Author.Needs.{needs}
+use Rattle.choice.specs.Search.{every}
 use Rattle.refusal.specs.Numbers.{done, numberOf}
 use Rattle.refusal.specs.Checks.{need}
 use Rattle.refusal.specs.declared.Refusal.the-variants.{BadList}
 use Rattle.snapshot.specs.declared.accounts.Account.{Account}
-use Rattle.changes.specs.List.{every}
 use Rattle.apply.specs.Apply.{listCount, layoutExact, changeGood, listGood, applied, applyNumber, applyData}
 use Rattle.apply.proofs.apply.Statement.{statement}
 use Rattle.apply.proofs.apply.Tie as tie
@@ -42,6 +42,10 @@ module _ (l : List ℕ) (a : Account) (d : List ℕ) where
   unfolding applyNumber applyData need
   accepted e f = rw e (refl, f)
 
+-- the list is applied: its entries are tested
+abbrev tested-of : tie.After-apply-entries → tie.After-changes-good
+tested-of c = c .before .before .before
+
 layout-exact-requires : tie.Need-layout-exact-requires
 layout-exact-requires c κs = search needs
 
@@ -59,10 +63,11 @@ same-length c = search needs
 
 returns : tie.Need-returns
 returns c =
-    let u = c .before .before .before .before .before in
+    let a = c .before .before in
+    let u = tested-of a in
     let d = u .before in
-    accepted _ _ _ (both-tests _ _ _ (d .before .layout-exact .ensures) (d .if1 .taken) (u .changes-good .ensures) ∙ c .before .before .before .before .if2 .taken)
-    (c .before .before .apply-entries .ensures)
+    accepted _ _ _ (both-tests _ _ _ (d .before .layout-exact .ensures) (d .if1 .taken) (u .changes-good .ensures) ∙ a .before .before .if2 .taken)
+    (a .apply-entries .ensures)
 
 number-requires : tie.Need-number-requires
 number-requires c κs = search needs

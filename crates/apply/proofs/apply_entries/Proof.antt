@@ -30,6 +30,14 @@ Inv-loop l a data₀ n i₀ «data» i = (i ≤ n) × («data» ≡ applied l a 
 abbrev μ-loop : tie.MeasureT-loop
 μ-loop l a data₀ n i₀ «data» i = n - i
 
+-- a turn begins: the function's start
+abbrev start-of : tie.At-loop Inv-loop μ-loop → tie.Start Inv-loop μ-loop
+start-of c = c .before .before .before .before
+
+-- an entry is applied: the turn that it is of
+abbrev turn-of : tie.After-apply-entry Inv-loop μ-loop → tie.At-loop Inv-loop μ-loop
+turn-of c = c .before .before .before
+
 u32-at-requires : tie.Need-u32-at-requires Inv-loop μ-loop
 u32-at-requires c κs = let f = layout-facts _ (list-facts _ _ _ (c .before .before .pre) .0) in omega arith
 
@@ -40,7 +48,7 @@ loop-holds c = (omega arith, refl)
 apply-entry-requires : tie.Need-apply-entry-requires Inv-loop μ-loop
 apply-entry-requires c κs =
     let d = c .before .before in
-    let g = d .before .before .before .before .pre in
+    let g = start-of d .pre in
     ((list-facts _ _ _ g .0, omega arith), good-yet _ _ _ _ (d .loop .inv .1) g (omega arith))
 
 add-i : tie.Need-add-i Inv-loop μ-loop
@@ -50,14 +58,14 @@ loop-less : tie.Need-loop-less Inv-loop μ-loop
 loop-less c = omega arith
 
 loop-again : tie.Need-loop-again Inv-loop μ-loop
-loop-again c = (omega arith, turn _ _ _ _ (c .before .before .before .before .before .loop .inv .1) (c .before .before .apply-entry .ensures))
+loop-again c = let d = c .before .before in (omega arith, turn _ _ _ _ (turn-of d .loop .inv .1) (d .apply-entry .ensures))
 
 same-length : tie.Need-same-length Inv-loop μ-loop
 same-length c = ap length (c .before .loop .inv .1) ∙ length-applied _ _ _ _
 
 returns : tie.Need-returns Inv-loop μ-loop
 returns c =
-    let e : c .before .loop .i ≡ listCount (c .before .before .before .before .before .args .l .now) = omega arith in
+    let e : c .before .loop .i ≡ listCount (start-of (c .before) .args .l .now) = omega arith in
     c .before .loop .inv .1 ∙ ap (applied _ _ _) e
 
 pub apply-entries-spec : {M : Type 1} → statement M

@@ -3,13 +3,15 @@ use Prim.Native.Nat.{ℕ, _≤_, _<_}
 use mathlib.Core.Path.{_≡_}
 use mathlib.Core.Bool.{Bool, true, false}
 use mathlib.Core.List.{List}
-use native.Mathlib.Omega.{arith}
 use lib.Dec.{eqb}
 use borrow.Author.Needs.{needs}
 use borrow.Author.Tests.{le-leb, lt-leb, eq-eqb, ne-eqb}
+use Rattle.layout.specs.Page.{pageSize}
 use Rattle.snapshot.specs.declared.accounts.Account.{Account}
-use Rattle.access.specs.Pages.{liveOf}
-use Rattle.apply.specs.Apply.{changeAccount, changePage, changeLive, ascends, changeGood}
+use Rattle.pages.specs.Pages.{liveOf}
+use Rattle.changes.specs.Entry.{changeIn}
+use Rattle.changes.specs.declared.entry.Change.{Change}
+use Rattle.apply.specs.Apply.{ascends, changeGood}
 use Rattle.apply.proofs.change_good.Statement.{statement}
 use Rattle.apply.proofs.change_good.Tie as tie
 
@@ -19,79 +21,76 @@ module _ (l : List ℕ) (a : Account) (size i : ℕ) {t : Bool} (e : t ≡ ascen
   unfolding changeGood
   out-of-order f = rw (← e, f)
 
-  module _ (f : t ≡ true) {n : ℕ} (g : n ≡ changeLive l i) where
+  module _ (f : t ≡ true) {r : Change} (read : r ≡ changeIn l i) where
     -- it has no live bytes
-    none-live : n < 1 → false ≡ changeGood l a size i
+    none-live : r .live < 1 → false ≡ changeGood l a size i
     unfolding changeGood
-    none-live h = rw (← e, f, ← g, lt-leb _ _ h)
+    none-live h = rw (← e, f, lt-leb _ _ (rw read at h))
 
-    module _ (h : 1 ≤ n) where
+    module _ (h : 1 ≤ r .live) where
       -- it has more than a page
-      many-live : 4096 < n → false ≡ changeGood l a size i
+      many-live : pageSize < r .live → false ≡ changeGood l a size i
       unfolding changeGood
-      many-live k = rw (← e, f, ← g, le-leb _ _ h, lt-leb _ _ k)
+      many-live k = rw (← e, f, le-leb _ _ (rw read at h), lt-leb _ _ (rw read at k))
 
-      module _ (k : n ≤ 4096) {x : ℕ} (q : x ≡ changeAccount l i) where
+      module _ (k : r .live ≤ pageSize) where
         -- it is another account's
-        another : (x ≡ a .0 → ⊥) → true ≡ changeGood l a size i
+        another : (r .account .0 ≡ a .0 → ⊥) → true ≡ changeGood l a size i
         unfolding changeGood
-        another m = rw (← e, f, ← g, le-leb _ _ h, le-leb _ _ k, ← q, ne-eqb _ _ m)
+        another m = rw (← e, f, le-leb _ _ (rw read at h), le-leb _ _ (rw read at k), ne-eqb _ _ (rw read at m))
 
         -- it is this account's: the data's length decides
-        length-decides : x ≡ a .0 → {p v : ℕ} → p ≡ changePage l i → v ≡ liveOf size (record { 0 = p }) → eqb n v ≡ changeGood l a size i
+        length-decides : {v : ℕ} → r .account .0 ≡ a .0 → v ≡ liveOf size (r .page) → eqb (r .live) v ≡ changeGood l a size i
         unfolding changeGood
-        length-decides m w u = rw (← e, f, ← g, le-leb _ _ h, le-leb _ _ k, ← q, eq-eqb _ _ m, ← w, ← u)
+        length-decides m u = rw (u, read, ← e, f, le-leb _ _ (rw read at h), le-leb _ _ (rw read at k), eq-eqb _ _ (rw read at m))
+
+-- an entry has live bytes: it is read
+abbrev read-of : tie.Else2 → tie.After-read-change
+read-of c = c .before .before
+
+-- it has not too many: it has some
+abbrev some-of : tie.Else3 → tie.Else2
+some-of c = c .before .before
+
+-- its account is compared: it has not too many
+abbrev few-of : tie.After-struct-known4 → tie.Else3
+few-of c = c .before .before
 
 ascends-requires : tie.Need-ascends-requires
 ascends-requires c κs = search needs
 
-mul-at : tie.Need-mul-at
-mul-at c = search needs
-
-add-at : tie.Need-add-at
-add-at c = search needs
-
-add-u32-at : tie.Need-add-u32-at
-add-u32-at c = search needs
-
-u32-at-requires : tie.Need-u32-at-requires
-u32-at-requires c κs = search needs
+read-change-requires : tie.Need-read-change-requires
+read-change-requires c κs = search needs
 
 returns : tie.Need-returns
 returns c =
-    let d = c .before .before in
-    none-live _ _ _ _ (d .before .ascends .ensures) (d .if1 .taken) (c .before .u32-at .ensures .0) (omega arith)
+    let r = c .before .before in
+    none-live _ _ _ _ (r .before .before .ascends .ensures) (r .before .if1 .taken) (r .read-change .ensures) (c .if2 .taken)
 
 returns-2 : tie.Need-returns-2
 returns-2 c =
-    let d = c .before .before .before in
-    many-live _ _ _ _ (d .before .ascends .ensures) (d .if1 .taken) (c .before .before .u32-at .ensures .0) (omega arith) (omega arith)
-
-u16-at-requires : tie.Need-u16-at-requires
-u16-at-requires c κs = search needs
-
-add-u16-at : tie.Need-add-u16-at
-add-u16-at c = search needs
-
-u16-at-requires-2 : tie.Need-u16-at-requires-2
-u16-at-requires-2 c κs = search needs
+    let s = c .before .before in
+    let r = read-of s in
+    many-live _ _ _ _ (r .before .before .ascends .ensures) (r .before .if1 .taken) (r .read-change .ensures) (s .if2 .left) (c .if3 .taken)
 
 live-bytes-requires : tie.Need-live-bytes-requires
 live-bytes-requires c κs = search needs
 
 returns-3 : tie.Need-returns-3
 returns-3 c =
-    let u = c .before .before .before .before in
-    let n = u .before .before .before in
-    length-decides _ _ _ _ (n .before .before .ascends .ensures) (n .before .if1 .taken) (n .u32-at .ensures .0) (omega arith) (omega arith) (u .u16-at .ensures)
-    (c .before .before .if4 .taken) (c .before .u16-at2 .ensures) (c .live-bytes .ensures .0)
+    let b = c .before in
+    let k = few-of (b .before .before) in
+    let s = some-of k in
+    let r = read-of s in
+    length-decides _ _ _ _ (r .before .before .ascends .ensures) (r .before .if1 .taken) (r .read-change .ensures) (s .if2 .left) (k .if3 .left) (b .before .if4 .taken)
+    (b .live-bytes .ensures .0)
 
 returns-4 : tie.Need-returns-4
 returns-4 c =
-    let u = c .before .before in
-    let n = u .before .before .before in
-    another _ _ _ _ (n .before .before .ascends .ensures) (n .before .if1 .taken) (n .u32-at .ensures .0) (omega arith) (omega arith) (u .u16-at .ensures)
-    (c .if4 .left)
+    let k = few-of (c .before) in
+    let s = some-of k in
+    let r = read-of s in
+    another _ _ _ _ (r .before .before .ascends .ensures) (r .before .if1 .taken) (r .read-change .ensures) (s .if2 .left) (k .if3 .left) (c .if4 .left)
 
 returns-5 : tie.Need-returns-5
 returns-5 c = out-of-order _ _ _ _ (c .before .ascends .ensures) (c .if1 .left)
@@ -101,15 +100,9 @@ change-good-spec =
     tie.close
     (tie.spec
     ascends-requires
-    mul-at
-    add-at
-    add-u32-at
-    u32-at-requires
+    read-change-requires
     returns
     returns-2
-    u16-at-requires
-    add-u16-at
-    u16-at-requires-2
     live-bytes-requires
     returns-3
     returns-4

@@ -4,9 +4,9 @@ use Prim.Native.Nat.{_≤_, _-_}
 use mathlib.Core.Path.{_≡_, refl, sym, ap, _∙_}
 use mathlib.Core.Bool.{true}
 use native.Mathlib.Omega.{arith}
-use Rattle.changes.specs.List.{every}
+use Rattle.choice.specs.Search.{every}
+use Rattle.choice.proofs.Every.{every-turn, every-fails}
 use Rattle.apply.specs.Apply.{listCount, changeGood}
-use Rattle.changes.proofs.Every.{every-turn, every-fails}
 use Rattle.apply.proofs.Good.{layout-facts, change-inside}
 use Rattle.apply.proofs.changes_good.Statement.{statement}
 use Rattle.apply.proofs.changes_good.Tie as tie
@@ -25,7 +25,9 @@ unfolding every
 loop-holds c = (omega arith, refl)
 
 change-good-requires : tie.Need-change-good-requires Inv-loop μ-loop
-change-good-requires c κs = change-inside _ _ (c .before .before .before .before .pre) (omega arith)
+change-good-requires c κs =
+    let s = c .before .before .before in
+    change-inside _ _ (λ k. s .shared-slice-known .given k .fits) (s .before .pre) (omega arith)
 
 add-i : tie.Need-add-i Inv-loop μ-loop
 add-i c = omega arith

@@ -8,7 +8,7 @@ use lib.ListN.{length, take, drop}
 use borrow.Author.Needs.{needs}
 use Rattle.words.specs.Words.{bytesAt}
 use Rattle.snapshot.specs.declared.accounts.Account.{Account}
-use Rattle.frames.specs.declared.table.Page.{Page}
+use Rattle.pages.specs.declared.Page.{Page}
 use Rattle.view.specs.View.{viewOf, viewBytes}
 use Rattle.view.specs.declared.View.{View}
 use Rattle.view.specs.declared.View.the-variants.{InSnapshot, InPool}

@@ -118,9 +118,9 @@ fn count_of_list(list: &[u8], bug: Option<Bug>) -> Result<usize, Why> {
     }
     let words: Vec<u64> = (0..4).map(|word| u64::from(u32_at(list, 4 * word))).collect();
     let count = words[0];
-    let expected = [LIST_HEADER as u64, 16 + 8 * count, 16 + 4104 * count];
+    let expected = list_words(count);
     if bug == Some(Bug::ApplyWrapsTotal) && expected.map(|word| word & 0xFFFF_FFFF) == words[1..] {
-        return Ok(((list.len() - LIST_HEADER) / 4104).min(count as usize));
+        return Ok(((list.len() - LIST_HEADER) / (LIST_ENTRY + PAGE)).min(count as usize));
     }
     let length_right = list.len() as u64 == words[3] || (list.len() as u64 > words[3] && bug != Some(Bug::ApplyRefusesLongerList));
     (expected == words[1..] && length_right).then_some(count as usize).ok_or(Why::ListLayout)

@@ -1,10 +1,9 @@
 -- `access::loads::fetch` meets its contract: it gives back translation's refusal, or the value at its place, which has room for the bytes.
 -- Assumes nothing.
-use mathlib.Core.Path.{refl}
 use native.Mathlib.Omega.{arith}
 use borrow.Author.Needs.{needs}
 use Rattle.access.specs.Loads.{fetchOf}
-use Rattle.access.proofs.Answers.{refused-value, place-short, code-room, given-code}
+use Rattle.access.proofs.Answers.{refused-value, given-value, place-room, place-short}
 use Rattle.access.proofs.loads.fetch.Statement.{statement}
 use Rattle.access.proofs.loads.fetch.Tie as tie
 
@@ -17,24 +16,28 @@ enum-known-fetched c = search needs
 enum-told : tie.Need-enum-told
 enum-told c = search needs
 
-number-of-requires : tie.Need-number-of-requires
-number-of-requires c κs = search needs
+outcome-of-requires : tie.Need-outcome-of-requires
+outcome-of-requires c κs = search needs
 
 returns : tie.Need-returns
 unfolding fetchOf
 returns c =
-    refused-value _ _ _ _ _ _ _ (c .before .before .before .translate .ensures) _ (c .before .enum-told .given .1) _ (c .number-of .ensures)
+    refused-value _ _ _ _ _ _ (c .before .before .before .translate .ensures) (c .outcome-of .ensures) (c .before .enum-told .given .1)
 
-code-at-requires : tie.Need-code-at-requires
-code-at-requires c κs =
+value-at-requires : tie.Need-value-at-requires
+value-at-requires c κs =
     let i = c .before .before .before .translate .ensures in
     let e = c .before .fetched .given .1 in
-    (place-short _ _ _ _ _ _ _ i _ e (omega arith), code-room _ _ _ _ _ _ _ i _ e refl)
+    (place-short _ _ _ _ _ _ i e (omega arith), place-room _ _ _ _ _ _ i e)
+
+outcome-of-requires-2 : tie.Need-outcome-of-requires-2
+outcome-of-requires-2 c κs = search needs
 
 returns-2 : tie.Need-returns-2
 unfolding fetchOf
 returns-2 c =
-    given-code _ _ _ _ _ _ _ (c .before .before .before .before .translate .ensures) _ (c .before .before .fetched .given .1) refl _ (c .code-at .ensures)
+    let d = c .before .before .before in
+    given-value _ _ _ _ _ _ (d .before .before .translate .ensures) (c .outcome-of2 .ensures) (d .fetched .given .1) (c .before .value-at .ensures)
 
 pub fetch-spec : {M : Type 1} → statement M
 fetch-spec =
@@ -43,7 +46,8 @@ fetch-spec =
     translate-requires
     enum-known-fetched
     enum-told
-    number-of-requires
+    outcome-of-requires
     returns
-    code-at-requires
+    value-at-requires
+    outcome-of-requires-2
     returns-2)

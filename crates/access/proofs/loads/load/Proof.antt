@@ -3,7 +3,7 @@
 use native.Mathlib.Omega.{arith}
 use borrow.Author.Needs.{needs}
 use Rattle.access.specs.Loads.{loadOf}
-use Rattle.access.proofs.Answers.{refused-value, place-room, place-short, given-value}
+use Rattle.access.proofs.Answers.{refused-value, given-value, place-room, place-short}
 use Rattle.access.proofs.loads.load.Statement.{statement}
 use Rattle.access.proofs.loads.load.Tie as tie
 
@@ -16,24 +16,28 @@ enum-known-answer c = search needs
 enum-told : tie.Need-enum-told
 enum-told c = search needs
 
-number-of-requires : tie.Need-number-of-requires
-number-of-requires c κs = search needs
+outcome-of-requires : tie.Need-outcome-of-requires
+outcome-of-requires c κs = search needs
 
 returns : tie.Need-returns
 unfolding loadOf
 returns c =
-    refused-value _ _ _ _ _ _ _ (c .before .before .before .translate .ensures) _ (c .before .enum-told .given .1) _ (c .number-of .ensures)
+    refused-value _ _ _ _ _ _ (c .before .before .before .translate .ensures) (c .outcome-of .ensures) (c .before .enum-told .given .1)
 
 value-at-requires : tie.Need-value-at-requires
 value-at-requires c κs =
     let i = c .before .before .before .translate .ensures in
     let e = c .before .answer .given .1 in
-    (place-short _ _ _ _ _ _ _ i _ e (omega arith), place-room _ _ _ _ _ _ _ i _ e)
+    (place-short _ _ _ _ _ _ i e (omega arith), place-room _ _ _ _ _ _ i e)
+
+outcome-of-requires-2 : tie.Need-outcome-of-requires-2
+outcome-of-requires-2 c κs = search needs
 
 returns-2 : tie.Need-returns-2
 unfolding loadOf
 returns-2 c =
-    given-value _ _ _ _ _ _ _ (c .before .before .before .before .translate .ensures) _ (c .before .before .answer .given .1) _ (c .value-at .ensures)
+    let d = c .before .before .before in
+    given-value _ _ _ _ _ _ (d .before .before .translate .ensures) (c .outcome-of2 .ensures) (d .answer .given .1) (c .before .value-at .ensures)
 
 pub load-spec : {M : Type 1} → statement M
 load-spec =
@@ -42,7 +46,8 @@ load-spec =
     translate-requires
     enum-known-answer
     enum-told
-    number-of-requires
+    outcome-of-requires
     returns
     value-at-requires
+    outcome-of-requires-2
     returns-2)

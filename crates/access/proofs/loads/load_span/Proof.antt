@@ -1,8 +1,8 @@
 -- `access::loads::load_span` meets its contract: it gives back translation's refusal, or the bytes at its place, which has room for them.
 -- Assumes nothing.
 use borrow.Author.Needs.{needs}
-use Rattle.access.specs.Loads.{loadSpanNumber, loadSpanOut}
-use Rattle.access.proofs.Answers.{refused-span, place-room, place-long, given-span}
+use Rattle.access.specs.Loads.{loadSpanOutcome, loadSpanOut}
+use Rattle.access.proofs.Answers.{refused-span, given-span, place-room, place-long}
 use Rattle.access.proofs.loads.load_span.Statement.{statement}
 use Rattle.access.proofs.loads.load_span.Tie as tie
 
@@ -15,26 +15,35 @@ enum-known-answer c = search needs
 enum-told : tie.Need-enum-told
 enum-told c = search needs
 
-number-of-requires : tie.Need-number-of-requires
-number-of-requires c κs = search needs
+outcome-of-requires : tie.Need-outcome-of-requires
+outcome-of-requires c κs = search needs
 
 returns : tie.Need-returns
-unfolding loadSpanNumber loadSpanOut
-returns c = refused-span _ _ _ _ _ _ _ (c .before .before .before .translate .ensures) _ (c .before .enum-told .given .1) _ (c .number-of .ensures) _
+unfolding loadSpanOutcome loadSpanOut
+returns c =
+    refused-span _ _ _ _ _ _ (c .before .before .before .translate .ensures) (c .outcome-of .ensures) (c .before .enum-told .given .1) _
 
 span-at-requires : tie.Need-span-at-requires
 span-at-requires c κs =
     let i = c .before .before .before .before .translate .ensures in
     let e = c .before .before .answer .given .1 in
-    (place-long _ _ _ _ _ _ _ i _ e, place-room _ _ _ _ _ _ _ i _ e)
+    (place-long _ _ _ _ _ _ i e, place-room _ _ _ _ _ _ i e)
+
+outcome-of-requires-2 : tie.Need-outcome-of-requires-2
+outcome-of-requires-2 c κs = search needs
 
 same-length : tie.Need-same-length
 same-length c = search needs
 
+-- where the place is known
+abbrev answer-of : tie.After-outcome-of2 → tie.After-answer
+answer-of c = c .before .before .before .before .before .before
+
 returns-2 : tie.Need-returns-2
-unfolding loadSpanNumber loadSpanOut
+unfolding loadSpanOutcome loadSpanOut
 returns-2 c =
-    given-span _ _ _ _ _ _ _ (c .before .before .before .before .before .before .before .translate .ensures) _ (c .before .before .before .before .before .answer .given .1) _ _ (c .before .before .span-at .ensures)
+    given-span _ _ _ _ _ _ (answer-of c .before .before .translate .ensures) (c .outcome-of2 .ensures) (answer-of c .answer .given .1) _
+    (c .before .before .before .span-at .ensures)
 
 pub load-span-spec : {M : Type 1} → statement M
 load-span-spec =
@@ -43,8 +52,9 @@ load-span-spec =
     translate-requires
     enum-known-answer
     enum-told
-    number-of-requires
+    outcome-of-requires
     returns
     span-at-requires
+    outcome-of-requires-2
     same-length
     returns-2)

@@ -3,8 +3,7 @@
 use mathlib.Core.Path.{_∙_}
 use native.Mathlib.Omega.{arith}
 use borrow.Author.Needs.{needs}
-use Rattle.words.proofs.Run.{length-bytesAt, length-zeros}
-use Rattle.access.proofs.PageBytes.{splice-whole}
+use Rattle.words.proofs.Run.{length-bytesAt, length-zeros, splice-whole}
 use Rattle.access.proofs.loads.span_at.Statement.{statement}
 use Rattle.access.proofs.loads.span_at.Tie as tie
 

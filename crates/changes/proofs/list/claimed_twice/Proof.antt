@@ -9,9 +9,9 @@ use lib.Dec.{eqb}
 use lib.ListN.{getD, length, take}
 use lib.Seq.{length-take-le, getD-take}
 use borrow.Author.Tests.{eq-eqb, ne-eqb}
-use Rattle.changes.specs.List.{every}
+use Rattle.choice.specs.Search.{every}
+use Rattle.choice.proofs.Every.{every-turn, every-fails}
 use Rattle.changes.specs.Copies.{codeKey, keyTwice}
-use Rattle.changes.proofs.Every.{every-turn, every-fails}
 use Rattle.changes.proofs.Apart.{differs}
 use Rattle.changes.proofs.list.claimed_twice.Statement.{statement}
 use Rattle.changes.proofs.list.claimed_twice.Tie as tie

@@ -1,61 +1,68 @@
--- `changes::list::write_change` meets its contract: the entry is one number of 8 bytes, and the frame's live bytes with the zeros behind them
--- are the page. Assumes nothing.
-use Prim.Native.Nat.{ℕ, _+_, _*_, _-_, _/_, _%_, _≤_, _<_}
-use mathlib.Core.Path.{_≡_, ap, _∙_}
+-- `changes::list::write_change` meets its contract: the entry is that of the code's key, and the frame's live bytes with the zeros behind
+-- them are the page. Assumes nothing.
+use Prim.Native.Nat.{ℕ, _+_, _*_, _-_, _/_, _≤_, _<_}
+use mathlib.Core.Path.{_≡_, _∙_}
 use mathlib.Core.List.{List, _++_}
 use native.Mathlib.Omega.{arith}
 use borrow.Author.Needs.{needs}
 use borrow.Author.Tests.{ltb-true}
-use Rattle.words.specs.Words.{wordBytes, splice, bytesAt, zeros}
+use Rattle.layout.specs.Page.{pageSize}
+use Rattle.layout.specs.List.{changeAt, pagesAt}
+use Rattle.words.specs.Words.{splice, bytesAt, zeros}
 use Rattle.words.proofs.Splice.{splice-append}
 use Rattle.words.proofs.Run.{length-bytesAt}
 use Rattle.snapshot.specs.Header.{accounts}
 use Rattle.snapshot.specs.Accounts.{entryOf, dataLength}
 use Rattle.snapshot.specs.declared.accounts.AccountEntry.{AccountEntry}
 use Rattle.snapshot.proofs.Facts.{snapshot-facts, entry-inside}
-use Rattle.access.specs.Pages.{liveOf, live}
-use Rattle.access.proofs.PageBytes.{live-most}
+use Rattle.pages.specs.Pages.{liveOf, live}
+use Rattle.pages.proofs.PageBytes.{live-most}
 use Rattle.changes.specs.Keys.{keyAccount, keyPage}
-use Rattle.changes.specs.List.{pagesAt, changeBytes}
+use Rattle.changes.specs.Entry.{changeBytes}
 use Rattle.changes.specs.Copies.{codeKey, codeFrame, codeEntry, codePage, ChangeFits}
-use Rattle.changes.proofs.Written.{change-word, padded-is}
+use Rattle.changes.proofs.Written.{padded-is}
 use Rattle.changes.proofs.list.write_change.Statement.{statement}
 use Rattle.changes.proofs.list.write_change.Tie as tie
 
-module _ (s p : List ℕ) (x : ℕ) (h : ChangeFits s p x) where
-  -- the account is a u16
-  small : codeKey x / 65536 < 65536
-  small = omega (arith, ltb-true (codeKey x / 65536) (accounts s) (h .account), snapshot-facts s (h .snapshot) .few-accounts)
+-- the account of a code that fits is a u16
+small : (s p : List ℕ) (x : ℕ) → ChangeFits s p x → codeKey x / 65536 < 65536
+small s p x h = omega (arith, ltb-true (codeKey x / 65536) (accounts s) (h .account), snapshot-facts s (h .snapshot) .few-accounts)
 
-  module _ (e : AccountEntry) (z l : ℕ) (ee : e ≡ entryOf s (keyAccount (codeKey x))) (ez : z ≡ dataLength e) (el : l ≡ liveOf z (keyPage (codeKey x))) where
-    -- so many bytes are copied as the page has live
-    count : l ≡ live s (keyAccount (codeKey x)) (keyPage (codeKey x))
-    count = el ∙ rw (ez, ee)
+module _ (s p : List ℕ) (x : ℕ) {e : AccountEntry} {z l : ℕ} (ee : e ≡ entryOf s (keyAccount (codeKey x))) (ez : z ≡ dataLength e) (el : l ≡ liveOf z (keyPage (codeKey x))) where
+  -- so many bytes are copied as the page has live
+  count : l ≡ live s (keyAccount (codeKey x)) (keyPage (codeKey x))
+  count = el ∙ rw (ez, ee)
 
-    -- the number is the entry
-    entry : wordBytes 8 (codeKey x / 65536 + 65536 * (codeKey x % 65536) + 4294967296 * l) ≡ codeEntry s x
-    unfolding changeBytes
-    entry = rw (← count) (change-word (codeKey x / 65536) (codeKey x % 65536) l small (omega arith))
+  -- the live bytes, then zeros, are the page
+  page : (o : List ℕ) (at : ℕ) → splice (splice o at (bytesAt l p (pageSize * codeFrame x))) (at + l) (zeros (pageSize - l)) ≡ splice o at (codePage s p x)
+  page o at =
+      let m : l ≤ pageSize = rw count (live-most _ _) in
+      let q : codePage s p x ≡ bytesAt l p (pageSize * codeFrame x) ++ zeros (pageSize - l) = rw (← count) (padded-is l p (pageSize * codeFrame x) m) in
+      rw (q, splice-append, length-bytesAt l p (pageSize * codeFrame x))
 
-    -- the live bytes, then zeros, are the page
-    page : (o : List ℕ) (at : ℕ) → splice (splice o at (bytesAt l p (4096 * codeFrame x))) (at + l) (zeros (4096 - l)) ≡ splice o at (codePage s p x)
-    page o at =
-        let m : l ≤ 4096 = rw count (live-most _ _) in
-        let q : codePage s p x ≡ bytesAt l p (4096 * codeFrame x) ++ zeros (4096 - l) = rw (← count) (padded-is l p (4096 * codeFrame x) m) in
-        rw (q, splice-append, length-bytesAt l p (4096 * codeFrame x))
+  -- the three writes
+  written : (out : List ℕ) (j n : ℕ) {o₁ o₂ o₃ : List ℕ} {at f : ℕ} → at ≡ pagesAt n → f ≡ pageSize * codeFrame x
+      → o₁ ≡ splice out (changeAt j) (changeBytes (record { account = keyAccount (codeKey x); page = keyPage (codeKey x); live = l }))
+      → o₂ ≡ splice o₁ (at + pageSize * j) (bytesAt l p f) → o₃ ≡ splice o₂ (at + pageSize * j + l) (zeros (pageSize - l))
+      → o₃ ≡ splice (splice out (changeAt j) (codeEntry s x)) (pagesAt n + pageSize * j) (codePage s p x)
+  written out j n ea ef e₁ e₂ e₃ = e₃ ∙ rw (e₂, ef, ea, page _ (pagesAt n + pageSize * j), e₁, count)
 
-    -- the three writes
-    written : (out o₁ o₂ o₃ : List ℕ) (j n : ℕ)
-        → o₁ ≡ splice out (16 + 8 * j) (wordBytes 8 (codeKey x / 65536 + 65536 * (codeKey x % 65536) + 4294967296 * l))
-        → o₂ ≡ splice o₁ (16 + 8 * n + 4096 * j) (bytesAt l p (4096 * codeFrame x))
-        → o₃ ≡ splice o₂ (16 + 8 * n + 4096 * j + l) (zeros (4096 - l))
-        → o₃ ≡ splice (splice out (16 + 8 * j) (codeEntry s x)) (pagesAt n + 4096 * j) (codePage s p x)
-    written out o₁ o₂ o₃ j n e₁ e₂ e₃ =
-        let f : o₁ ≡ splice out (16 + 8 * j) (codeEntry s x) = e₁ ∙ ap (splice out (16 + 8 * j)) entry in
-        e₃ ∙ rw (e₂, f) (page (splice out (16 + 8 * j) (codeEntry s x)) (16 + 8 * n + 4096 * j))
+-- the page is written: its entry was before it
+abbrev entry-of : tie.After-clear → tie.After-put-change
+entry-of c = c .before .before .before .before .before .before .before .before .before .before
 
-cast-t14 : tie.Need-cast-t14
-cast-t14 c = let h = small _ _ _ (c .before .before .before .pre .0) in omega arith
+-- before that, its live bytes were counted
+abbrev live-of : tie.After-clear → tie.After-live-bytes
+live-of c = entry-of c .before .before
+
+cast-t15 : tie.Need-cast-t15
+cast-t15 c = let h = small _ _ _ (c .before .before .before .pre .0) in omega arith
+
+cast-t15-2 : tie.Need-cast-t15-2
+cast-t15-2 c = search needs
+
+cast-t15-3 : tie.Need-cast-t15-3
+cast-t15-3 c = search needs
 
 whole-account-entry-requires : tie.Need-whole-account-entry-requires
 whole-account-entry-requires c κs =
@@ -65,32 +72,14 @@ whole-account-entry-requires c κs =
 data-length-requires : tie.Need-data-length-requires
 data-length-requires c κs = search needs
 
-cast-t14-2 : tie.Need-cast-t14-2
-cast-t14-2 c = search needs
-
 live-bytes-requires : tie.Need-live-bytes-requires
 live-bytes-requires c κs = search needs
 
-mul-write : tie.Need-mul-write
-mul-write c = search needs
+put-change-requires : tie.Need-put-change-requires
+put-change-requires c κs = search needs
 
-add-write : tie.Need-add-write
-add-write c = search needs
-
-mul-write-2 : tie.Need-mul-write-2
-mul-write-2 c = search needs
-
-add-write-2 : tie.Need-add-write-2
-add-write-2 c = search needs
-
-mul-write-3 : tie.Need-mul-write-3
-mul-write-3 c = search needs
-
-add-write-3 : tie.Need-add-write-3
-add-write-3 c = search needs
-
-write-requires : tie.Need-write-requires
-write-requires c κs = search needs
+pages-at-requires : tie.Need-pages-at-requires
+pages-at-requires c κs = search needs
 
 mul-at : tie.Need-mul-at
 mul-at c = search needs
@@ -98,14 +87,8 @@ mul-at c = search needs
 add-at : tie.Need-add-at
 add-at c = search needs
 
-mul-at-2 : tie.Need-mul-at-2
-mul-at-2 c = search needs
-
-add-at-2 : tie.Need-add-at-2
-add-at-2 c = search needs
-
-mul-copy : tie.Need-mul-copy
-mul-copy c = search needs
+frame-start-requires : tie.Need-frame-start-requires
+frame-start-requires c κs = search needs
 
 copy-requires : tie.Need-copy-requires
 copy-requires c κs = search needs
@@ -124,34 +107,27 @@ same-length c = search needs
 
 returns : tie.Need-returns
 returns c =
-    let d₃ = c .before .before in
-    let d₂ = d₃ .before .before .before .before in
-    let d₁ = d₂ .before .before .before .before in
-    let d = d₁ .before .before in
-    written _ _ _ (d .before .before .before .before .before .before .pre .0) _ _ _ (d .before .before .whole-account-entry .ensures) (d .before .data-length .ensures)
-    (d .live-bytes .ensures .0) _ _ _ _ _ _ (d₁ .write .ensures) (d₂ .copy .ensures) (d₃ .clear .ensures)
+    let d = c .before .before in
+    let k = d .before .before .before .before in
+    let l = live-of d in
+    written _ _ _ (l .before .before .whole-account-entry .ensures) (l .before .data-length .ensures) (l .live-bytes .ensures .0) _ _ _ (k .before .before .before .pages-at .ensures)
+    (k .before .frame-start .ensures .0) (entry-of d .put-change .ensures) (k .copy .ensures) (d .clear .ensures)
 
 pub write-change-spec : {M : Type 1} → statement M
 write-change-spec =
     tie.close
     (tie.spec
-    cast-t14
+    cast-t15
+    cast-t15-2
+    cast-t15-3
     whole-account-entry-requires
     data-length-requires
-    cast-t14-2
     live-bytes-requires
-    mul-write
-    add-write
-    mul-write-2
-    add-write-2
-    mul-write-3
-    add-write-3
-    write-requires
+    put-change-requires
+    pages-at-requires
     mul-at
     add-at
-    mul-at-2
-    add-at-2
-    mul-copy
+    frame-start-requires
     copy-requires
     add-clear
     sub-clear

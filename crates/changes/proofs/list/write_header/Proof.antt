@@ -1,8 +1,9 @@
 -- `changes::list::write_header` meets its contract: the four writes, one behind the other, are one. Assumes nothing.
-use Prim.Native.Nat.{ℕ, _+_, _*_}
+use Prim.Native.Nat.{ℕ, _+_}
 use mathlib.Core.Path.{_≡_, _∙_}
 use mathlib.Core.List.{List}
 use borrow.Author.Needs.{needs}
+use Rattle.layout.specs.List.{listHeader, pagesAt, listTotal}
 use Rattle.words.specs.Words.{wordBytes, splice}
 use Rattle.words.proofs.Splice.{splice-append}
 use Rattle.words.proofs.Word.{length-wordBytes}
@@ -11,12 +12,24 @@ use Rattle.changes.proofs.list.write_header.Statement.{statement}
 use Rattle.changes.proofs.list.write_header.Tie as tie
 
 -- the four writes
-written : (out o₁ o₂ o₃ o₄ : List ℕ) (n : ℕ) → o₁ ≡ splice out 0 (wordBytes 4 n) → o₂ ≡ splice o₁ 4 (wordBytes 4 16)
-    → o₃ ≡ splice o₂ 8 (wordBytes 4 (16 + 8 * n)) → o₄ ≡ splice o₃ 12 (wordBytes 4 (16 + 8 * n + 4096 * n))
+written : (out : List ℕ) (n : ℕ) {o₁ o₂ o₃ o₄ : List ℕ} {p t : ℕ} → p ≡ pagesAt n → t ≡ listTotal n → o₁ ≡ splice out 0 (wordBytes 4 n)
+    → o₂ ≡ splice o₁ 4 (wordBytes 4 listHeader) → o₃ ≡ splice o₂ (4 + 4) (wordBytes 4 p) → o₄ ≡ splice o₃ (4 + 4 + 4) (wordBytes 4 t)
     → o₄ ≡ splice out 0 (listHeaderBytes n)
 unfolding listHeaderBytes
-written out o₁ o₂ o₃ o₄ n e₁ e₂ e₃ e₄ =
-    e₄ ∙ rw (e₃, e₂, e₁, splice-append, splice-append, splice-append, length-wordBytes, length-wordBytes, length-wordBytes)
+written out n ep et e₁ e₂ e₃ e₄ =
+    e₄ ∙ rw (e₃, e₂, e₁, ep, et, splice-append, splice-append, splice-append, length-wordBytes, length-wordBytes, length-wordBytes)
+
+-- the total is written: the place of the pages was before it
+abbrev pages-of : tie.After-write4 → tie.After-write3
+pages-of c = c .before .before .before .before .before
+
+-- the length of the header was before that
+abbrev header-of : tie.After-write4 → tie.After-write2
+header-of c = pages-of c .before .before .before .before .before
+
+-- the count was first
+abbrev count-of : tie.After-write4 → tie.After-write
+count-of c = header-of c .before .before .before .before
 
 write-requires : tie.Need-write-requires
 write-requires c κs = search needs
@@ -24,26 +37,14 @@ write-requires c κs = search needs
 write-requires-2 : tie.Need-write-requires-2
 write-requires-2 c κs = search needs
 
-mul-write : tie.Need-mul-write
-mul-write c = search needs
-
-add-write : tie.Need-add-write
-add-write c = search needs
+pages-at-requires : tie.Need-pages-at-requires
+pages-at-requires c κs = search needs
 
 write-requires-3 : tie.Need-write-requires-3
 write-requires-3 c κs = search needs
 
-mul-write-2 : tie.Need-mul-write-2
-mul-write-2 c = search needs
-
-add-write-2 : tie.Need-add-write-2
-add-write-2 c = search needs
-
-mul-write-3 : tie.Need-mul-write-3
-mul-write-3 c = search needs
-
-add-write-3 : tie.Need-add-write-3
-add-write-3 c = search needs
+list-total-requires : tie.Need-list-total-requires
+list-total-requires c κs = search needs
 
 write-requires-4 : tie.Need-write-requires-4
 write-requires-4 c κs = search needs
@@ -53,10 +54,9 @@ same-length c = search needs
 
 returns : tie.Need-returns
 returns c =
-    let d₄ = c .before .before in
-    let d₃ = d₄ .before .before .before .before in
-    let d₂ = d₃ .before .before .before .before in
-    written _ _ _ _ _ _ (d₂ .before .before .before .before .write .ensures) (d₂ .write2 .ensures) (d₃ .write3 .ensures) (d₄ .write4 .ensures)
+    let d = c .before .before in
+    written _ _ (pages-of d .before .pages-at .ensures) (d .before .list-total .ensures) (count-of d .write .ensures) (header-of d .write2 .ensures) (pages-of d .write3 .ensures)
+    (d .write4 .ensures)
 
 pub write-header-spec : {M : Type 1} → statement M
 write-header-spec =
@@ -64,13 +64,9 @@ write-header-spec =
     (tie.spec
     write-requires
     write-requires-2
-    mul-write
-    add-write
+    pages-at-requires
     write-requires-3
-    mul-write-2
-    add-write-2
-    mul-write-3
-    add-write-3
+    list-total-requires
     write-requires-4
     same-length
     returns)

@@ -8,7 +8,8 @@ use native.Mathlib.Omega.{arith}
 use lib.ListN.{length}
 use borrow.Author.Needs.{needs}
 use borrow.Author.Tests.{eq-eqb, ne-eqb}
-use Rattle.control.specs.Control.{poolLength, frames, controlValid, currentValid, controlReady}
+use Rattle.layout.specs.Page.{poolLength}
+use Rattle.control.specs.Control.{frames, controlValid, currentValid, controlReady}
 use Rattle.control.proofs.Facts.{control-facts}
 use Rattle.control.proofs.buffers.control_ready.Statement.{statement}
 use Rattle.control.proofs.buffers.control_ready.Tie as tie

@@ -8,8 +8,9 @@ use native.Mathlib.Omega.{arith}
 use lib.Dec.{ltb, leb}
 use borrow.Author.Needs.{needs}
 use borrow.Author.Tests.{lt-ltb, le-ltb, le-leb, lt-leb}
+use Rattle.layout.specs.Page.{pageLimit}
 use Rattle.choice.specs.Choice.{both}
-use Rattle.control.specs.Control.{pageLimit, invocations, invocationOf, currentValid}
+use Rattle.control.specs.Control.{invocations, invocationOf, currentValid}
 use Rattle.control.specs.declared.shadow.Invocation.{Invocation}
 use Rattle.control.proofs.Facts.{ControlFacts, control-facts}
 use Rattle.control.proofs.buffers.current_valid.Statement.{statement}
@@ -46,8 +47,14 @@ cast-if1 c = search needs
 returns : tie.Need-returns
 returns c = unknown _ _ _ _ (c .before .before .before .invocation-count .ensures .0) (c .before .before .invocation-at .ensures) (c .if1 .taken)
 
+cast-if2 : tie.Need-cast-if2
+cast-if2 c = search needs
+
 returns-2 : tie.Need-returns-2
 returns-2 c = large _ _ _ _ (c .before .before .before .before .before .invocation-count .ensures .0) (c .before .before .before .before .invocation-at .ensures) (c .before .before .if1 .left) (c .if2 .taken)
+
+cast-result : tie.Need-cast-result
+cast-result c = search needs
 
 returns-3 : tie.Need-returns-3
 returns-3 c = heap-decides _ _ _ _ (c .before .before .before .before .before .before .invocation-count .ensures .0) (c .before .before .before .before .before .invocation-at .ensures) (c .before .before .before .if1 .left) (c .before .if2 .left)
@@ -60,5 +67,7 @@ current-valid-spec =
     invocation-at-requires
     cast-if1
     returns
+    cast-if2
     returns-2
+    cast-result
     returns-3)

@@ -8,9 +8,10 @@ use lib.ListN.{length}
 use lib.Dec.{eqb}
 use borrow.Author.Needs.{needs}
 use borrow.Author.Tests.{eqb-true, eqb-false}
+use Rattle.layout.specs.Control.{shadowAt, tableAt, frameLimit, liveLimit, controlLength}
 use Rattle.words.specs.Words.{wordAt}
 use Rattle.choice.proofs.Tests.{by-test}
-use Rattle.control.specs.Control.{shadowAt, tableAt, frameLimit, liveLimit, controlLength, frames, invocations, controlValid}
+use Rattle.control.specs.Control.{frames, invocations, controlValid}
 use Rattle.control.proofs.Facts.{control-valid, control-invalid}
 use Rattle.control.proofs.header.valid.Statement.{statement}
 use Rattle.control.proofs.header.valid.Tie as tie

@@ -1,8 +1,8 @@
 -- `control::shadow::invocation_at` meets its contract: the three words read are the record's fields. Assumes nothing.
 use Rattle.control.proofs.Records.{invocation-is}
-use borrow.Author.Needs.{needs}
 use Rattle.control.proofs.shadow.invocation_at.Statement.{statement}
 use Rattle.control.proofs.shadow.invocation_at.Tie as tie
+use borrow.Author.Needs.{needs}
 
 record-at-requires : tie.Need-record-at-requires
 record-at-requires c κs = search needs

@@ -5,15 +5,16 @@ use mathlib.Core.Path.{_≡_, refl, sym, _∙_}
 use mathlib.Core.List.{List}
 use native.Mathlib.Omega.{arith}
 use lib.ListN.{length}
+use Rattle.layout.specs.Control.{registersSize}
 use Rattle.words.specs.Words.{wordBytes, splice, bytesAt, zeros}
 use Rattle.words.proofs.Word.{wordBytes-append}
 use Rattle.words.proofs.Run.{run-all}
-use Rattle.control.specs.Control.{registersSize, recordAt, putInvocation}
+use Rattle.control.specs.Control.{recordAt, putInvocation}
 use Rattle.control.specs.declared.shadow.Invocation.{Invocation}
 use Rattle.control.proofs.Records.{fieldBytes, put-parts}
-use borrow.Author.Needs.{needs}
 use Rattle.control.proofs.shadow.put_invocation.Statement.{statement}
 use Rattle.control.proofs.shadow.put_invocation.Tie as tie
+use borrow.Author.Needs.{needs}
 
 -- the bytes of 0
 two-zeros : wordBytes 2 0 ≡ zeros 2

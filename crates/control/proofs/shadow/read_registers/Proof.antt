@@ -4,13 +4,14 @@ use mathlib.Core.Path.{_≡_, sym, _∙_}
 use mathlib.Core.List.{List}
 use native.Mathlib.Omega.{arith}
 use lib.ListN.{length}
+use Rattle.layout.specs.Control.{registersSize}
 use Rattle.words.specs.Words.{splice, bytesAt}
 use Rattle.words.proofs.Splice.{length-splice}
 use Rattle.words.proofs.Run.{length-bytesAt, run-all, run-back}
-use Rattle.control.specs.Control.{recordAt, registersSize, registersOf}
-use borrow.Author.Needs.{needs}
+use Rattle.control.specs.Control.{recordAt, registersOf}
 use Rattle.control.proofs.shadow.read_registers.Statement.{statement}
 use Rattle.control.proofs.shadow.read_registers.Tie as tie
+use borrow.Author.Needs.{needs}
 
 -- a run that is as long as what it is put into, put in at its start
 whole : (s bs : List ℕ) → length bs ≡ length s → splice s 0 bs ≡ bs

@@ -1,8 +1,8 @@
 -- `frames::finding::frame_of` meets its contract: the entries that are searched are all that the table has. Assumes nothing.
 use native.Mathlib.Omega.{arith}
 use borrow.Author.Needs.{needs}
-use Rattle.frames.specs.Table.{frameOf}
 use Rattle.control.proofs.Facts.{control-facts}
+use Rattle.frames.specs.Table.{frameOf}
 use Rattle.frames.proofs.finding.frame_of.Statement.{statement}
 use Rattle.frames.proofs.finding.frame_of.Tie as tie
 

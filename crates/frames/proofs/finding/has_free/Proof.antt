@@ -13,8 +13,8 @@ use borrow.Author.Tests.{le-leb, lt-leb, eq-eqb, ne-eqb}
 use Rattle.choice.specs.Search.{count}
 use Rattle.choice.proofs.Counting.{count-hit, count-pass, count-grows}
 use Rattle.control.specs.Control.{frames}
-use Rattle.frames.specs.Table.{frameEntryAt, isFree, freeCount}
 use Rattle.control.proofs.Facts.{control-facts}
+use Rattle.frames.specs.Table.{frameEntryAt, isFree, freeCount}
 use Rattle.frames.proofs.Loops.{free-test}
 use Rattle.frames.proofs.finding.has_free.Statement.{statement}
 use Rattle.frames.proofs.finding.has_free.Tie as tie

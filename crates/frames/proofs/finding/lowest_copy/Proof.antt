@@ -9,13 +9,14 @@ use native.Mathlib.Omega.{arith}
 use lib.ListN.{getD}
 use Rattle.words.specs.Words.{wordAt}
 use Rattle.words.proofs.Word.{word-append, word-fits}
+use Rattle.choice.proofs.Tests.{fails}
 use Rattle.choice.specs.Search.{seek, lowest}
 use Rattle.snapshot.specs.declared.accounts.Account.{Account}
+use Rattle.pages.specs.declared.Page.{Page}
 use Rattle.frames.specs.Table.{frameEntryAt, frameField, claims}
-use Rattle.frames.specs.declared.table.Page.{Page}
 use Rattle.frames.specs.declared.finding.Claim.the-variants.{Copy}
 use Rattle.frames.proofs.Claims.{claims-copy, copy-claims}
-use Rattle.frames.proofs.Loops.{byte-is, fails, search-start, search-found, search-goes-on, search-ends}
+use Rattle.frames.proofs.Loops.{byte-is, search-start, search-found, search-goes-on, search-ends}
 use Rattle.frames.proofs.finding.lowest_copy.Statement.{statement}
 use Rattle.frames.proofs.finding.lowest_copy.Tie as tie
 

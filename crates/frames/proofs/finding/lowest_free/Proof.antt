@@ -1,23 +1,23 @@
--- `frames::finding::lowest_free` meets its contract. The loop's invariant: the search from entry f on finds what the whole search
--- finds. Assumes nothing.
-use mathlib.Core.Path.{_≡_, _∙_}
+-- `frames::finding::lowest_free` meets its contract. The loop's invariant: the search from entry f on finds what the search from
+-- the start finds. Assumes nothing.
+use mathlib.Core.Path.{_≡_, refl, _∙_}
 use Prim.Native.Nat.{_≤_, _-_}
 use native.Mathlib.Omega.{arith}
 use borrow.Author.Tests.{eq-eqb, ne-eqb}
-use Rattle.choice.specs.Search.{seek, lowest}
+use Rattle.choice.specs.Search.{seek}
 use Rattle.frames.specs.Table.{isFree}
-use Rattle.frames.proofs.Loops.{free-test, search-start, search-found, search-goes-on, search-ends}
+use Rattle.frames.proofs.Loops.{free-test, search-found, search-goes-on, search-ends}
 use Rattle.frames.proofs.finding.lowest_free.Statement.{statement}
 use Rattle.frames.proofs.finding.lowest_free.Tie as tie
 
 abbrev Inv-loop : tie.InvT-loop
-Inv-loop c frames f₀ f = (f ≤ frames) × (seek (isFree c) f (frames - f) ≡ lowest (isFree c) frames)
+Inv-loop c from frames f₀ f = (f ≤ frames) × (seek (isFree c) f (frames - f) ≡ seek (isFree c) from (frames - from))
 
 abbrev μ-loop : tie.MeasureT-loop
-μ-loop c frames f₀ f = frames - f
+μ-loop c from frames f₀ f = frames - f
 
 loop-holds : tie.Need-loop-holds Inv-loop μ-loop
-loop-holds c = (omega arith, search-start _ _)
+loop-holds c = (omega arith, refl)
 
 mul-if1 : tie.Need-mul-if1 Inv-loop μ-loop
 mul-if1 c = omega arith

@@ -8,13 +8,14 @@ use mathlib.Core.Logic.{⊎-elim}
 use native.Mathlib.Omega.{arith}
 use lib.ListN.{getD}
 use Rattle.words.specs.Words.{wordAt}
+use Rattle.choice.proofs.Tests.{fails}
 use Rattle.choice.specs.Search.{seek, lowest}
 use Rattle.control.specs.declared.shadow.Region.{Region}
+use Rattle.pages.specs.declared.Page.{Page}
 use Rattle.frames.specs.Table.{frameEntryAt, frameField, usageOf, claims}
-use Rattle.frames.specs.declared.table.Page.{Page}
 use Rattle.frames.specs.declared.finding.Claim.the-variants.{Anonymous}
 use Rattle.frames.proofs.Claims.{claims-page, page-claims}
-use Rattle.frames.proofs.Loops.{byte-is, fails, search-start, search-found, search-goes-on, search-ends}
+use Rattle.frames.proofs.Loops.{byte-is, search-start, search-found, search-goes-on, search-ends}
 use Rattle.frames.proofs.finding.lowest_page.Statement.{statement}
 use Rattle.frames.proofs.finding.lowest_page.Tie as tie
 

@@ -1,15 +1,11 @@
 -- `hekthumar::accesses::hekthumar_fetch` meets its contract: it hands on what the fetch gives. Assumes nothing.
+use mathlib.Core.Path.{ap, _∙_}
 use borrow.Author.Needs.{needs}
-use mathlib.Core.Path.{ap}
 use Rattle.hekthumar.specs.Answers.{valueAnswer}
 use Rattle.hekthumar.proofs.accesses.hekthumar_fetch.Statement.{statement}
 use Rattle.hekthumar.proofs.accesses.hekthumar_fetch.Tie as tie
 
-fetch-requires : tie.Need-fetch-requires
-fetch-requires c κs = search needs
-
-returns : tie.Need-returns
-returns c = ap valueAnswer (c .fetch .ensures)
-
 pub hekthumar-fetch-spec : {M : Type 1} → statement M
-hekthumar-fetch-spec = tie.close (tie.spec fetch-requires returns)
+hekthumar-fetch-spec =
+    tie.close
+    (tie.spec (λ c κs. search needs) (λ c κs. search needs) (λ c. c .value-of .ensures ∙ ap valueAnswer (c .before .fetch .ensures)))

@@ -43,7 +43,7 @@ returns-4 : tie.Need-returns-4
 returns-4 c = rw (c .before .before .p3 .given .1) (c .at-place4 .ensures)
 
 returns-5 : tie.Need-returns-5
-returns-5 c = rw (c .before .p4 .given .1)
+returns-5 c = rw (c .before .before .before .before .p4 .given .1)
 
 pub place-of-spec : {M : Type 1} → statement M
 place-of-spec =

@@ -6,7 +6,8 @@ use mathlib.Core.Bool.{false}
 use native.Mathlib.Omega.{arith}
 use lib.Dec.{eqb}
 use borrow.Author.Tests.{le-leb, lt-leb, eq-eqb, ne-eqb}
-use Rattle.control.specs.Control.{tableAt, frameLimit, controlLength, poolLength}
+use Rattle.layout.specs.Page.{poolLength}
+use Rattle.layout.specs.Control.{tableAt, frameLimit, controlLength}
 use Rattle.invoke.specs.Invoke.{framesIn, roomValid}
 use Rattle.invoke.proofs.begin.room_valid.Statement.{statement}
 use Rattle.invoke.proofs.begin.room_valid.Tie as tie

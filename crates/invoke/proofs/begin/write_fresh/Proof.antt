@@ -1,25 +1,18 @@
 -- `invoke::begin::write_fresh` meets its contract. Zeros over the whole block leave zeros; the four words behind one another are the header;
 -- the program goes into record 1. Assumes nothing.
 use Prim.Native.Nat.{ℕ}
-use mathlib.Core.Path.{_≡_, refl, sym, _∙_}
+use mathlib.Core.Path.{_≡_, refl, _∙_}
 use mathlib.Core.List.{List}
-use native.Mathlib.Omega.{arith}
 use lib.ListN.{length}
 use borrow.Author.Needs.{needs}
+use Rattle.layout.specs.Control.{shadowAt, tableAt}
 use Rattle.words.specs.Words.{wordBytes, splice, zeros}
-use Rattle.words.proofs.Splice.{length-splice}
-use Rattle.words.proofs.Run.{run-all, run-back, length-zeros}
-use Rattle.snapshot.specs.declared.accounts.Account.{Account}
-use Rattle.control.specs.Control.{shadowAt, tableAt, recordAt}
+use Rattle.words.proofs.Run.{splice-whole, length-zeros}
+use Rattle.control.specs.Control.{recordAt}
 use Rattle.invoke.specs.Invoke.{framesIn, headerBytes, fresh}
+use Rattle.invoke.specs.declared.begin.Start.{Start}
 use Rattle.invoke.proofs.begin.write_fresh.Statement.{statement}
 use Rattle.invoke.proofs.begin.write_fresh.Tie as tie
-
--- as many bytes put in as there are: nothing is left
-whole : (s bs : List ℕ) → length bs ≡ length s → splice s 0 bs ≡ bs
-whole s bs e =
-    let l : length (splice s 0 bs) ≡ length bs = length-splice s 0 bs ∙ sym e in
-    sym (rw l at (run-all (splice s 0 bs))) ∙ run-back s 0 bs (omega arith)
 
 -- four words, one behind the other
 four-words : (z : List ℕ) (f d : ℕ)
@@ -29,14 +22,14 @@ unfolding headerBytes wordBytes splice
 four-words z f d = refl
 
 -- the writes in order
-written : (c : List ℕ) (a : Account) {z c₁ c₂ c₃ c₄ c₅ : List ℕ} → z ≡ splice c 0 (zeros (length c))
+written : (c : List ℕ) (x : Start) {z c₁ c₂ c₃ c₄ c₅ : List ℕ} → z ≡ splice c 0 (zeros (length c))
     → c₁ ≡ splice z 0 (wordBytes 4 (framesIn (length c)))
     → c₂ ≡ splice c₁ 4 (wordBytes 4 1) → c₃ ≡ splice c₂ 8 (wordBytes 4 shadowAt) → c₄ ≡ splice c₃ 12 (wordBytes 4 tableAt)
-    → c₅ ≡ splice c₄ (recordAt 1) (wordBytes 2 (a .0)) → c₅ ≡ fresh (length c) a
+    → c₅ ≡ splice c₄ (recordAt 1) (wordBytes 2 (x .program .0)) → c₅ ≡ fresh (length c) x
 unfolding fresh
-written c a e e₁ e₂ e₃ e₄ e₅ =
+written c x e e₁ e₂ e₃ e₄ e₅ =
     e₅
-    ∙ rw (e₄, e₃, e₂, e₁, e, whole c (zeros (length c)) (length-zeros (length c)), four-words (zeros (length c)) (framesIn (length c)) 1)
+    ∙ rw (e₄, e₃, e₂, e₁, e, splice-whole c (zeros (length c)) (length-zeros (length c)), four-words (zeros (length c)) (framesIn (length c)) 1)
 
 sub-frames : tie.Need-sub-frames
 sub-frames c = search needs
@@ -65,14 +58,33 @@ write-requires-5 c κs = search needs
 same-length : tie.Need-same-length
 same-length c = search needs
 
+-- behind the zeros and behind each of the words, from the write that follows
+abbrev cleared-of : tie.After-write → tie.After-clear
+cleared-of c = c .before .before .before .before
+
+abbrev frames-of : tie.After-write2 → tie.After-write
+frames-of c = c .before .before .before .before
+
+abbrev live-of : tie.After-write3 → tie.After-write2
+live-of c = c .before .before .before .before
+
+abbrev shadow-of : tie.After-write4 → tie.After-write3
+shadow-of c = c .before .before .before .before
+
+abbrev table-of : tie.After-write5 → tie.After-write4
+table-of c = c .before .before .before .before .before .before
+
+abbrev program-of : tie.After-slice-known7 → tie.After-write5
+program-of c = c .before .before
+
 returns : tie.Need-returns
 returns c =
-    let d₄ = c .before .before .before .before .before .before .before in
-    let d₃ = d₄ .before .before .before .before in
-    let d₂ = d₃ .before .before .before .before in
-    let d₁ = d₂ .before .before .before .before in
-    let d₀ = d₁ .before .before .before .before in
-    written _ _ (d₀ .clear .ensures) (d₁ .write .ensures) (d₂ .write2 .ensures) (d₃ .write3 .ensures) (d₄ .write4 .ensures) (c .before .before .write5 .ensures)
+    let d₅ = program-of c in
+    let d₄ = table-of d₅ in
+    let d₃ = shadow-of d₄ in
+    let d₂ = live-of d₃ in
+    let d₁ = frames-of d₂ in
+    written _ _ (cleared-of d₁ .clear .ensures) (d₁ .write .ensures) (d₂ .write2 .ensures) (d₃ .write3 .ensures) (d₄ .write4 .ensures) (d₅ .write5 .ensures)
 
 pub write-fresh-spec : {M : Type 1} → statement M
 write-fresh-spec =

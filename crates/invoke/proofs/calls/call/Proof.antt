@@ -31,10 +31,6 @@ module _ (s c p : List ℕ) (a : Account) (registers : List ℕ) {k : Check} (e 
   unfolding callNumber callControl called
   goes-on f e₁ e₂ e₃ e₄ = rw (← e, f) (refl, e₄ ∙ rw (e₃, e₂, e₁))
 
--- what a check that passes has shown
-shown : (s c p : List ℕ) (a : Account) (size : ℕ) {k : Check} → k ≡ callCheck s c p a size → k ≡ Pass → CallFacts s c p a size
-shown s c p a size e f = call-facts s c p a size (sym e ∙ f)
-
 call-check-requires : tie.Need-call-check-requires
 call-check-requires c κs = search needs
 
@@ -48,48 +44,64 @@ same-length : tie.Need-same-length
 same-length c = search needs
 
 returns : tie.Need-returns
-returns c = refused _ _ _ _ _ (c .before .before .before .before .call-check .ensures) (c .before .before .check .given .1) (c .number .ensures)
+returns c =
+    let d = c .before .before in
+    refused _ _ _ _ _ (d .before .before .call-check .ensures) (d .check .given .1) (c .number .ensures)
 
 enum-told : tie.Need-enum-told
 enum-told c = search needs
 
+-- behind the check, the count, the caller's record and the new one, from where the next line stands
+abbrev passed-of : tie.After-invocation-count → tie.After-enum-told
+passed-of c = c .before .before
+
+abbrev counted-of : tie.After-invocation-at-arg → tie.After-invocation-count
+counted-of c = c .before
+
+abbrev caller-of : tie.After-put-invocation-arg → tie.After-invocation-at
+caller-of c = c .before
+
+abbrev put-of : tie.After-set-invocations-arg → tie.After-put-invocation
+put-of c = c .before .before .before
+
+abbrev start-of : tie.After-enum-told → tie.Start
+start-of c = c .before .before .before .before .before .before .before .before
+
+-- what a check that passes has shown
+shown : (c : tie.After-enum-told)
+    → CallFacts (start-of c .args .s .now) (start-of c .args .c .now) (start-of c .args .pool .now) (start-of c .args .program) (length (start-of c .args .registers .now))
+shown c = call-facts _ _ _ _ _ (sym (c .before .before .call-check .ensures) ∙ c .enum-told .given .1)
+
 invocation-count-requires : tie.Need-invocation-count-requires
-invocation-count-requires c κs = shown _ _ _ _ _ (c .before .before .before .call-check .ensures) (c .before .enum-told .given .1) .control .header
+invocation-count-requires c κs = shown (c .before) .control .header
 
 invocation-at-requires : tie.Need-invocation-at-requires
-invocation-at-requires c κs =
-    let d = c .before .before .before in
-    let f = shown _ _ _ _ _ (d .before .before .call-check .ensures) (d .enum-told .given .1) in
-    omega arith
+invocation-at-requires c κs = let f = shown (passed-of (counted-of c)) in omega arith
 
 add-put-invocation : tie.Need-add-put-invocation
 add-put-invocation c = search needs
 
 put-invocation-requires : tie.Need-put-invocation-requires
-put-invocation-requires c κs =
-    let d = c .before .before .before .before .before in
-    let f = shown _ _ _ _ _ (d .before .before .call-check .ensures) (d .enum-told .given .1) in
-    omega arith
+put-invocation-requires c κs = let f = shown (passed-of (counted-of (caller-of c .before))) in omega arith
 
 add-set-invocations : tie.Need-add-set-invocations
 add-set-invocations c = search needs
 
 set-invocations-requires : tie.Need-set-invocations-requires
-set-invocations-requires c κs =
-    let d = c .before .before .before .before .before .before .before .before .before in
-    let f = shown _ _ _ _ _ (d .before .before .call-check .ensures) (d .enum-told .given .1) in
-    omega arith
+set-invocations-requires c κs = let f = shown (passed-of (counted-of (caller-of (put-of c .before) .before))) in omega arith
 
 same-length-2 : tie.Need-same-length-2
 same-length-2 c = search needs
 
 returns-2 : tie.Need-returns-2
 returns-2 c =
-    let d₃ = c .before .before .before .before .before .before in
-    let d₂ = d₃ .before .before in
-    let d₁ = d₂ .before .before .before .before in
-    goes-on _ _ _ _ _ (d₁ .before .before .call-check .ensures) (d₁ .enum-told .given .1) (d₂ .before .before .invocation-count .ensures .0)
-    (d₂ .invocation-at .ensures) (d₃ .put-invocation .ensures) (c .before .before .set-invocations .ensures)
+    let d₄ = c .before .before in
+    let d₃ = put-of (d₄ .before) in
+    let d₂ = caller-of (d₃ .before) in
+    let d₁ = counted-of (d₂ .before) in
+    let d = passed-of d₁ in
+    goes-on _ _ _ _ _ (d .before .before .call-check .ensures) (d .enum-told .given .1) (d₁ .invocation-count .ensures .0)
+    (d₂ .invocation-at .ensures) (d₃ .put-invocation .ensures) (d₄ .set-invocations .ensures)
 
 pub call-spec : {M : Type 1} → statement M
 call-spec =

@@ -30,10 +30,6 @@ module _ (s c p out : List ℕ) {k : Check} (e : k ≡ returnCheck s c p (length
   unfolding returnNumber returnControl returnOut returned
   goes-on f e₁ e₂ e₃ e₄ e₅ = rw (← e, f) (refl, (e₅ ∙ rw (e₄, e₃, e₁), e₂ ∙ rw e₁))
 
--- what a check that passes has shown
-shown : (s c p : List ℕ) (size : ℕ) {k : Check} → k ≡ returnCheck s c p size → k ≡ Pass → ReturnFacts s c p size
-shown s c p size e f = return-facts s c p size (sym e ∙ f)
-
 return-check-requires : tie.Need-return-check-requires
 return-check-requires c κs = search needs
 
@@ -47,48 +43,57 @@ same-length : tie.Need-same-length
 same-length c = search needs
 
 returns : tie.Need-returns
-returns c = refused _ _ _ _ (c .before .before .before .before .return-check .ensures) (c .before .before .check .given .1) (c .number .ensures)
+returns c =
+    let d = c .before .before in
+    refused _ _ _ _ (d .before .before .return-check .ensures) (d .check .given .1) (c .number .ensures)
 
 enum-told : tie.Need-enum-told
 enum-told c = search needs
 
+-- behind the check, the count, the registers, the freed frames and the cleared record, from where the next line stands
+abbrev passed-of : tie.After-invocation-count → tie.After-enum-told
+passed-of c = c .before .before
+
+abbrev counted-of : tie.After-read-registers-arg2 → tie.After-invocation-count
+counted-of c = c .before .before
+
+abbrev read-of : tie.After-free-leaving-arg → tie.After-read-registers
+read-of c = c .before .before .before
+
+abbrev freed-of : tie.After-clear-invocation-arg → tie.After-free-leaving
+freed-of c = c .before .before .before
+
+abbrev cleared-of : tie.After-set-invocations-arg → tie.After-clear-invocation
+cleared-of c = c .before .before .before
+
+abbrev start-of : tie.After-enum-told → tie.Start
+start-of c = c .before .before .before .before .before .before .before .before
+
+-- what a check that passes has shown
+shown : (c : tie.After-enum-told)
+    → ReturnFacts (start-of c .args .s .now) (start-of c .args .c .now) (start-of c .args .pool .now) (length (start-of c .args .registers .now))
+shown c = return-facts _ _ _ _ (sym (c .before .before .return-check .ensures) ∙ c .enum-told .given .1)
+
 invocation-count-requires : tie.Need-invocation-count-requires
-invocation-count-requires c κs = shown _ _ _ _ (c .before .before .before .return-check .ensures) (c .before .enum-told .given .1) .control .header
+invocation-count-requires c κs = shown (c .before) .control .header
 
 read-registers-requires : tie.Need-read-registers-requires
-read-registers-requires c κs =
-    let d = c .before .before .before .before in
-    let f = shown _ _ _ _ (d .before .before .return-check .ensures) (d .enum-told .given .1) in
-    omega arith
+read-registers-requires c κs = let f = shown (passed-of (counted-of c)) in omega arith
 
 sub-free-leaving : tie.Need-sub-free-leaving
-sub-free-leaving c =
-    let d = c .before .before .before .before .before .before .before .before in
-    let f = shown _ _ _ _ (d .before .before .return-check .ensures) (d .enum-told .given .1) in
-    omega arith
+sub-free-leaving c = let f = shown (passed-of (counted-of (read-of c .before))) in omega arith
 
 free-leaving-requires : tie.Need-free-leaving-requires
-free-leaving-requires c κs =
-    let d = c .before .before .before .before .before .before .before .before in
-    shown _ _ _ _ (d .before .before .return-check .ensures) (d .enum-told .given .1) .buffers .control
+free-leaving-requires c κs = shown (passed-of (counted-of (read-of c .before))) .buffers .control
 
 clear-invocation-requires : tie.Need-clear-invocation-requires
-clear-invocation-requires c κs =
-    let d = c .before .before .before .before .before .before .before .before .before .before .before .before in
-    let f = shown _ _ _ _ (d .before .before .return-check .ensures) (d .enum-told .given .1) in
-    omega arith
+clear-invocation-requires c κs = let f = shown (passed-of (counted-of (read-of (freed-of c .before) .before))) in omega arith
 
 sub-set-invocations : tie.Need-sub-set-invocations
-sub-set-invocations c =
-    let d = c .before .before .before .before .before .before .before .before .before .before .before .before .before .before .before .before in
-    let f = shown _ _ _ _ (d .before .before .return-check .ensures) (d .enum-told .given .1) in
-    omega arith
+sub-set-invocations c = let f = shown (passed-of (counted-of (read-of (freed-of (cleared-of c .before) .before) .before))) in omega arith
 
 set-invocations-requires : tie.Need-set-invocations-requires
-set-invocations-requires c κs =
-    let d = c .before .before .before .before .before .before .before .before .before .before .before .before .before .before .before .before in
-    let f = shown _ _ _ _ (d .before .before .return-check .ensures) (d .enum-told .given .1) in
-    omega arith
+set-invocations-requires c κs = let f = shown (passed-of (counted-of (read-of (freed-of (cleared-of c .before) .before) .before))) in omega arith
 
 same-length-2 : tie.Need-same-length-2
 same-length-2 c = search needs
@@ -98,11 +103,14 @@ same-length-3 c = search needs
 
 returns-2 : tie.Need-returns-2
 returns-2 c =
-    let d₃ = c .before .before .before .before .before .before in
-    let d₂ = d₃ .before .before .before .before in
-    let d₁ = d₂ .before .before .before .before .before .before .before in
-    goes-on _ _ _ _ (d₁ .before .before .before .before .return-check .ensures) (d₁ .before .before .enum-told .given .1) (d₁ .invocation-count .ensures .0)
-    (d₂ .before .before .before .before .read-registers .ensures) (d₂ .free-leaving .ensures) (d₃ .clear-invocation .ensures) (c .before .before .set-invocations .ensures)
+    let d₅ = c .before .before in
+    let d₄ = cleared-of (d₅ .before) in
+    let d₃ = freed-of (d₄ .before) in
+    let d₂ = read-of (d₃ .before) in
+    let d₁ = counted-of (d₂ .before) in
+    let d = passed-of d₁ in
+    goes-on _ _ _ _ (d .before .before .return-check .ensures) (d .enum-told .given .1) (d₁ .invocation-count .ensures .0)
+    (d₂ .read-registers .ensures) (d₃ .free-leaving .ensures) (d₄ .clear-invocation .ensures) (d₅ .set-invocations .ensures)
 
 pub return-from-spec : {M : Type 1} → statement M
 return-from-spec =

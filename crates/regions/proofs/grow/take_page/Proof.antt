@@ -1,8 +1,23 @@
 -- `regions::grow::take_page` meets its contract: the entry that is written is the region's, and a frame is a page long. Assumes nothing.
-use mathlib.Core.Path.{_∙_}
+use Prim.Native.Nat.{ℕ}
+use mathlib.Core.Path.{ap, _∙_}
 use native.Mathlib.Omega.{arith}
+use Rattle.layout.specs.Page.{pageSize}
+use Rattle.words.specs.Words.{splice, zeros}
+use Rattle.frames.specs.Table.{putFrameEntry}
 use Rattle.regions.proofs.grow.take_page.Statement.{statement}
 use Rattle.regions.proofs.grow.take_page.Tie as tie
+
+-- at the end: where the entry was written, and where the bytes were cleared
+abbrev entry-of : tie.After-slice-known4 → tie.After-put-frame-entry
+entry-of c = c .before .before .before .before .before .before .before
+
+abbrev bytes-of : tie.After-slice-known4 → tie.After-clear
+bytes-of c = c .before .before
+
+-- once the entry is written: the function's start
+abbrev start-of : tie.After-put-frame-entry → tie.Start
+start-of c = c .before .before .before .before .before
 
 usage-of-requires : tie.Need-usage-of-requires
 usage-of-requires c κs = tt
@@ -10,23 +25,26 @@ usage-of-requires c κs = tt
 put-frame-entry-requires : tie.Need-put-frame-entry-requires
 put-frame-entry-requires c κs = omega arith
 
-cast-clear : tie.Need-cast-clear
-cast-clear c = omega arith
-
-mul-clear : tie.Need-mul-clear
-mul-clear c = omega arith
+frame-start-requires : tie.Need-frame-start-requires
+frame-start-requires c κs = tt
 
 clear-requires : tie.Need-clear-requires
 clear-requires c κs = omega arith
 
 same-length : tie.Need-same-length
-same-length c = c .before .before .before .before .before .before .before .put-frame-entry .kept .0
+same-length c = entry-of c .put-frame-entry .kept .0
 
 same-length-2 : tie.Need-same-length-2
-same-length-2 c = c .before .before .clear .kept .0
+same-length-2 c = bytes-of c .clear .kept .0
 
 returns : tie.Need-returns
-returns c = (c .before .before .before .before .before .before .before .put-frame-entry .ensures ∙ rw (c .before .before .before .before .before .before .before .before .usage-of .ensures), c .before .before .clear .ensures)
+returns c =
+    let s = start-of (entry-of c) .args in (
+      entry-of c .put-frame-entry .ensures
+          ∙ ap (λ (u : ℕ). putFrameEntry (s .c .now) (s .f .0) (record { usage = u; tag = s .depth; account = record { 0 = 0 }; page = s .page; zero = 0 }))
+          (entry-of c .before .usage-of .ensures),
+      bytes-of c .clear .ensures ∙ ap (λ (at : ℕ). splice (s .pool .now) at (zeros pageSize)) (bytes-of c .before .frame-start .ensures .0),
+    )
 
 pub take-page-spec : {M : Type 1} → statement M
 take-page-spec =
@@ -34,8 +52,7 @@ take-page-spec =
     (tie.spec
     usage-of-requires
     put-frame-entry-requires
-    cast-clear
-    mul-clear
+    frame-start-requires
     clear-requires
     same-length
     same-length-2

@@ -5,6 +5,7 @@ use mathlib.Core.Path.{_≡_, refl, ap, _∙_}
 use mathlib.Core.List.{List}
 use native.Mathlib.Omega.{arith}
 use borrow.Author.Tests.{lt-ltb, le-ltb}
+use Rattle.refusal.specs.Numbers.{done}
 use Rattle.refusal.specs.Checks.{checkNumber}
 use Rattle.control.specs.Control.{invocations, invocationOf, current, pagesOf}
 use Rattle.control.specs.declared.shadow.Region.{Region}
@@ -32,7 +33,7 @@ module _ (c p : List ℕ) (r : Region) (n s : ℕ) (here : s ≡ pagesOf (curren
       rw (le-ltb (pagesOf (current c) r) n (omega (arith, here)), lt-ltb n (pagesOf (current c) r) (rw here at l)) (g .0, (g .1, refl))
 
   -- as many
-  stays : n ≤ s → s ≤ n → Gives (resizeTo c p r n) 0 c p
+  stays : n ≤ s → s ≤ n → Gives (resizeTo c p r n) done c p
   unfolding resizeTo
   stays l m =
       rw (le-ltb (pagesOf (current c) r) n (omega (arith, here)), le-ltb n (pagesOf (current c) r) (omega (arith, here))) (refl, (refl, refl))
@@ -40,6 +41,10 @@ module _ (c p : List ℕ) (r : Region) (n s : ℕ) (here : s ≡ pagesOf (curren
 -- once the size is read: the function's start
 abbrev start-of : tie.After-pages → tie.Start
 start-of c = c .before .before .before .before .before .before
+
+-- at the end, where the region grew: the call
+abbrev grown-of : tie.After-slice-known4 → tie.After-grow-to
+grown-of c = c .before .before .before .before
 
 -- the size
 size-at : (c : tie.After-pages) → c .pages .result ≡ pagesOf (current (start-of c .args .c .now)) (start-of c .args .r)
@@ -58,25 +63,29 @@ cast-size : tie.Need-cast-size
 cast-size c = omega arith
 
 grow-to-requires : tie.Need-grow-to-requires
-grow-to-requires c κs = (c .before .before .before .before .before .before .before .before .before .pre .0, (size-at (c .before .before .before), omega arith, omega arith))
+grow-to-requires c κs = let s = c .before .before .before in (start-of s .pre .0, (size-at s, omega arith, omega arith))
 
 same-length : tie.Need-same-length
-same-length c = c .before .before .before .before .grow-to .kept .0
+same-length c = grown-of c .grow-to .kept .0
 
 same-length-2 : tie.Need-same-length-2
-same-length-2 c = c .before .before .before .before .grow-to .kept .1 .0
+same-length-2 c = grown-of c .grow-to .kept .1 .0
 
 returns : tie.Need-returns
-returns c = grows _ _ _ _ _ (size-at (c .before .before .before .before .before .before .before .before)) (c .before .before .before .before .before .before .before .if1 .taken) _ _ _ (c .before .before .before .before .grow-to .ensures)
+returns c =
+    let t = grown-of c .before .before .before in
+    grows _ _ _ _ _ (size-at (t .before)) (t .if1 .taken) _ _ _ (grown-of c .grow-to .ensures)
 
 shrink-to-requires : tie.Need-shrink-to-requires
-shrink-to-requires c κs = let e = size-at (c .before .before .before) in (c .before .before .before .before .before .before .before .before .before .pre .0 .0, (e, omega arith, omega arith))
+shrink-to-requires c κs = let s = c .before .before .before in let e = size-at s in (start-of s .pre .0 .0, (e, omega arith, omega arith))
 
 same-length-3 : tie.Need-same-length-3
 same-length-3 c = c .before .before .shrink-to .kept .0
 
 returns-2 : tie.Need-returns-2
-returns-2 c = shrinks _ _ _ _ _ (size-at (c .before .before .before .before .before .before)) (c .before .before .before .before .if2 .taken) _ _ (c .before .before .shrink-to .ensures)
+returns-2 c =
+    let t = c .before .before .before .before in
+    shrinks _ _ _ _ _ (size-at (t .before .before)) (t .if2 .taken) _ _ (c .before .before .shrink-to .ensures)
 
 same-length-4 : tie.Need-same-length-4
 same-length-4 c = refl

@@ -1,51 +1,41 @@
 -- `regions::shrink::all_held` meets its contract. The loop's invariant: each page before k has a frame. What the list has at a page's
 -- number says whether it has one. Assumes nothing.
-use Prim.Native.Nat.{ℕ, suc, _+_, _-_, _≤_, _<_}
+use Prim.Native.Nat.{ℕ, _-_, _≤_}
 use mathlib.Core.Path.{_≡_, sym, ap}
-use mathlib.Core.Bool.{true, false}
+use mathlib.Core.Bool.{Bool, true}
 use mathlib.Core.List.{List}
 use native.Mathlib.Omega.{arith}
-use Rattle.choice.proofs.Tests.{differ, both-intro}
 use Rattle.control.specs.declared.shadow.Region.{Region}
 use Rattle.control.proofs.Facts.{control-facts}
-use Rattle.frames.specs.declared.finding.Found.the-variants.{Nothing}
-use Rattle.frames.proofs.Loops.{fails}
-use Rattle.regions.specs.Resize.{pageFrame, isHeld, allHeld}
-use Rattle.regions.proofs.Shrunk.{held-between}
+use Rattle.frames.specs.Table.{isFound}
+use Rattle.regions.specs.Resize.{pageFrame, allHeld}
+use Rattle.regions.proofs.Between.{between, between-start, between-turn, between-stop}
 use Rattle.regions.proofs.Listed.{listed-below, listed-le, listed-at, listed-none}
 use Rattle.regions.proofs.shrink.all_held.Statement.{statement}
 use Rattle.regions.proofs.shrink.all_held.Tie as tie
 
--- no page is looked at yet
-start : (c : List ℕ) (r : Region) (pages : ℕ) → allHeld c r pages (pages - pages) ≡ true
-unfolding allHeld
-start c r pages = let e : pages - pages ≡ 0 = omega arith in rw e
-
-module _ (c : List ℕ) (r : Region) (pages k : ℕ) (from : pages ≤ k) where
-  -- page k has a frame: one page more has
-  goes-on : isHeld (pageFrame c r k) ≡ true → allHeld c r pages (k - pages) ≡ true → allHeld c r pages (k + 1 - pages) ≡ true
-  unfolding allHeld
-  goes-on e h =
-      let e₁ : k + 1 - pages ≡ suc (k - pages) = omega arith in
-      let e₂ : pages + (k - pages) ≡ k = omega arith in
-      rw (e₁, e₂) (both-intro _ _ h e)
-
-  -- page k has none: not all have
-  stops : (size : ℕ) → k < size → pageFrame c r k ≡ Nothing → false ≡ allHeld c r pages (size - pages)
-  stops size l e =
-      sym (fails _ (λ h. differ (isHeld (pageFrame c r k)) (held-between c r pages size k from l h) (ap isHeld e)))
+-- the test of each page: it has a frame
+abbrev held : List ℕ → Region → ℕ → Bool
+held c r k = isFound (pageFrame c r k)
 
 abbrev Inv-loop : tie.InvT-loop
-Inv-loop c table r pages size frames k₀ k = (pages ≤ k) × (k ≤ size) × (allHeld c r pages (k - pages) ≡ true)
+Inv-loop c table r pages size frames k₀ k = (pages ≤ k) × (k ≤ size) × (between (held c r) pages k ≡ true)
 
 abbrev μ-loop : tie.MeasureT-loop
 μ-loop c table r pages size frames k₀ k = size - k
+
+-- once the page is known: where the turn began, and the function
+abbrev turn-of : tie.After-page-at Inv-loop μ-loop → tie.At-loop Inv-loop μ-loop
+turn-of c = c .before .before
+
+abbrev start-of : tie.After-page-at Inv-loop μ-loop → tie.Start Inv-loop μ-loop
+start-of c = turn-of c .before .before .before
 
 frame-count-requires : tie.Need-frame-count-requires Inv-loop μ-loop
 frame-count-requires c κs = control-facts _ (c .before .pre .0) .header
 
 loop-holds : tie.Need-loop-holds Inv-loop μ-loop
-loop-holds c = (omega arith, omega arith, start _ _ _)
+loop-holds c = (omega arith, omega arith, between-start (held _ _) _)
 
 page-at-requires : tie.Need-page-at-requires Inv-loop μ-loop
 page-at-requires c κs = omega arith
@@ -57,21 +47,24 @@ mul-if1 : tie.Need-mul-if1 Inv-loop μ-loop
 mul-if1 c = omega arith
 
 element-copy-out-if1 : tie.Need-element-copy-out-if1 Inv-loop μ-loop
-element-copy-out-if1 c = listed-below (c .before .before .before .before .before .before .pre .1) (c .before .before .before .loop .k) (omega arith) _ (c .before .page-at .ensures)
+element-copy-out-if1 c =
+    let p = c .before in
+    listed-below (start-of p .pre .1) (turn-of p .loop .k) (omega arith) _ (p .page-at .ensures)
 
 cast-if1 : tie.Need-cast-if1 Inv-loop μ-loop
 cast-if1 c =
     let p = c .before .before in
-    let v = control-facts _ (c .before .before .before .before .before .before .before .pre .0) in
-    let x = listed-le (c .before .before .before .before .before .before .before .pre .1) (p .before .before .loop .k) (omega arith) (p .page-at .result) (p .page-at .ensures) in
+    let v = control-facts _ (start-of p .pre .0) in
+    let x = listed-le (start-of p .pre .1) (turn-of p .loop .k) (omega arith) (p .page-at .result) (p .page-at .ensures) in
     omega arith
 
 returns : tie.Need-returns Inv-loop μ-loop
+unfolding allHeld
 returns c =
     let p = c .before .before .before in
-    let l = p .before .before .loop in
-    stops _ _ _ _ (l .inv .0) _ (p .before .loop-test .taken)
-    (listed-none (c .before .before .before .before .before .before .before .before .pre .1) (l .k) (omega arith) _ (p .page-at .ensures) (omega arith))
+    let l = turn-of p .loop in
+    between-stop (held _ _) _ (l .k) (l .inv .0) _ (p .before .loop-test .taken)
+    (ap isFound (listed-none (start-of p .pre .1) (l .k) (omega arith) _ (p .page-at .ensures) (omega arith)))
 
 add-k : tie.Need-add-k Inv-loop μ-loop
 add-k c = omega arith
@@ -82,13 +75,14 @@ loop-less c = omega arith
 loop-again : tie.Need-loop-again Inv-loop μ-loop
 loop-again c =
     let p = c .before .before .before in
-    let l = p .before .before .loop in (
+    let l = turn-of p .loop in (
       omega arith,
       omega arith,
-      goes-on _ _ _ _ (l .inv .0) (ap isHeld (listed-at (c .before .before .before .before .before .before .before .before .pre .1) (l .k) (omega arith) _ (p .page-at .ensures) (omega arith))) (l .inv .2),
+      between-turn (held _ _) _ (l .k) (l .inv .0) (ap isFound (listed-at (start-of p .pre .1) (l .k) (omega arith) _ (p .page-at .ensures) (omega arith))) (l .inv .2),
     )
 
 returns-2 : tie.Need-returns-2 Inv-loop μ-loop
+unfolding allHeld
 returns-2 c =
     let e : c .before .loop .k ≡ c .before .before .before .before .args .size = omega arith in
     sym (rw e at (c .before .loop .inv .2))

@@ -1,8 +1,8 @@
 -- `regions::shrink::frames_by_page` meets its contract. The loop's invariant: of the entries from i on, the list has the lowest that
 -- claims each page. Assumes nothing.
 use Prim.Native.Nat.{ℕ, _+_, _-_, _≤_, _<_}
-use mathlib.Core.Path.{_≡_, sym, _∙_}
-use mathlib.Core.Bool.{Bool, true, false}
+use mathlib.Core.Path.{_≡_, refl, sym, ap, _∙_}
+use mathlib.Core.Bool.{false}
 use mathlib.Core.Logic.{_≢_}
 use mathlib.Core.List.{List}
 use native.Mathlib.Nat.{le-refl}
@@ -10,74 +10,78 @@ use native.Mathlib.Decide.{ℕ-discrete}
 use native.Mathlib.Omega.{arith}
 use lib.ListN.{length, getD, set, replicate, length-set, length-replicate, getD-replicate}
 use lib.Seq.{getD-set-same, getD-set-other}
-use Rattle.words.specs.Words.{wordAt}
+use Rattle.layout.specs.Page.{pageLimit}
 use Rattle.choice.specs.Search.{seek, lowest}
+use Rattle.choice.proofs.Tests.{fails}
 use Rattle.choice.proofs.Lowest.{seek-hit, seek-miss, seek-end}
-use Rattle.control.specs.Control.{pageLimit, frames}
+use Rattle.control.specs.Control.{frames}
 use Rattle.control.specs.declared.shadow.Region.{Region}
 use Rattle.control.proofs.Facts.{control-facts}
-use Rattle.frames.specs.Table.{frameEntryAt, frameField, usageOf, claims}
+use Rattle.frames.specs.Table.{frameEntryOf, usageOf, holds, claims}
+use Rattle.frames.specs.declared.table.FrameEntry.{FrameEntry}
+use Rattle.frames.specs.declared.finding.Claim.{Claim}
 use Rattle.frames.specs.declared.finding.Claim.the-variants.{Anonymous}
-use Rattle.frames.proofs.Claims.{claims-page, page-claims}
-use Rattle.frames.proofs.Loops.{byte-is, fails, search-start}
+use Rattle.frames.proofs.Claims.{holds-page, page-holds, claims-holds}
+use Rattle.frames.proofs.Loops.{search-start}
+use Rattle.regions.proofs.Pages.{entry-inside}
 use Rattle.regions.proofs.shrink.frames_by_page.Statement.{statement}
 use Rattle.regions.proofs.shrink.frames_by_page.Tie as tie
 
--- entry j claims the region's page k
-abbrev has : List ℕ → Region → ℕ → ℕ → Bool
-has c r k j = claims c (Anonymous r (record { 0 = k })) j
+-- the claim of the region's page k
+abbrev page : Region → ℕ → Claim
+page r k = Anonymous r (record { 0 = k })
 
--- the lowest of the entries from i on, below n, that does
+-- the lowest of the entries from i on, below n, that makes it
 abbrev from : List ℕ → Region → ℕ → ℕ → ℕ → ℕ
-from c r n i k = seek (has c r k) i (n - i)
+from c r n i k = seek (claims c (page r k)) i (n - i)
 
 -- before any entry
 start : (c : List ℕ) (r : Region) (n m k : ℕ) → k < m → getD (replicate m n) k 0 ≡ from c r n n k
-start c r n m k l = getD-replicate m k n 0 l ∙ sym (seek-end (has c r k) n n (le-refl n))
+start c r n m k l = getD-replicate m k n 0 l ∙ sym (seek-end (claims c (page r k)) n n (le-refl n))
 
--- entry i - 1 is next
-module _ (c : List ℕ) (r : Region) (n i : ℕ) (l : 0 < i) (m : i ≤ n) where
-  -- it claims page k
-  hits : (k : ℕ) → has c r k (i - 1) ≡ true → i - 1 ≡ from c r n (i - 1) k
-  hits k e = sym (seek-hit (has c r k) (i - 1) n (omega arith) e)
+-- a turn: the list t is right from entry i on
+record Turn (c : List ℕ) (r : Region) (n i : ℕ) (t : List ℕ) : Type 0 where
+  some : 0 < i
+  most : i ≤ n
+  listed : (k : ℕ) → k < pageLimit → getD t k 0 ≡ from c r n i k
 
-  -- it does not
-  misses : (k : ℕ) → has c r k (i - 1) ≡ false → from c r n i k ≡ from c r n (i - 1) k
-  misses k e = let z : i - 1 + 1 ≡ i = omega arith in rw z at (seek-miss (has c r k) (i - 1) n (omega arith) e)
+module _ {c : List ℕ} {r : Region} {n i : ℕ} {t : List ℕ} (s : Turn c r n i t) where
+  -- the entry before
+  abbrev entry : FrameEntry
+  entry = frameEntryOf c (i - 1)
 
-  module _ (t : List ℕ) (inv : (k : ℕ) → k < pageLimit → getD t k 0 ≡ from c r n i k) where
-    -- it is in another use
-    other-use : getD c (frameEntryAt (i - 1)) 0 ≢ usageOf r → (k : ℕ) → k < pageLimit → getD t k 0 ≡ from c r n (i - 1) k
-    other-use d k b =
-        inv k b
-        ∙ misses k
-        (fails _ (λ h. d (byte-is 0 c (i - 1) (frameEntryAt (i - 1)) (omega arith) ∙ claims-page c (i - 1) r (record { 0 = k }) h .usage)))
+  -- it does not hold page k, whose frame stays
+  stays : (k : ℕ) → k < pageLimit → holds (page r k) entry ≡ false → getD t k 0 ≡ from c r n (i - 1) k
+  stays k b h =
+      let z : i - 1 + 1 ≡ i = omega arith in
+      s .listed k b ∙ rw z at (seek-miss (claims c (page r k)) (i - 1) n (omega arith) (claims-holds c (i - 1) (page r k) ∙ h))
 
-    module _ (p : ℕ) (read : p ≡ wordAt 2 c (frameEntryAt (i - 1) + 4)) where
-      -- its page is another
-      other-page : (k : ℕ) → k ≢ p → k < pageLimit → getD t k 0 ≡ from c r n (i - 1) k
-      unfolding frameField
-      other-page k d b =
-          inv k b ∙ misses k (fails _ (λ h. d (sym (read ∙ claims-page c (i - 1) r (record { 0 = k }) h .page))))
+  -- it is in another use
+  other-use : entry .usage ≢ usageOf r → (k : ℕ) → k < pageLimit → getD t k 0 ≡ from c r n (i - 1) k
+  other-use d k b = stays k b (fails _ (λ h. d (holds-page r (record { 0 = k }) entry h .usage)))
 
-      -- it is the region's, and its page is listed
-      same-page : getD c (frameEntryAt (i - 1)) 0 ≡ usageOf r → p < length t → (k : ℕ) → k < pageLimit
-          → getD (set t p (i - 1)) k 0 ≡ from c r n (i - 1) k
-      unfolding frameField
-      same-page u q k b =
-          elim (ℕ-discrete k p) [
-            | yes e ↦
-                rw e
-                (getD-set-same t p (i - 1) 0 q
-                ∙ hits p
-                (page-claims c (i - 1) r (record { 0 = p })
-                (record { usage = sym (byte-is 0 c (i - 1) (frameEntryAt (i - 1)) (omega arith)) ∙ u; page = sym read })))
-            | no e ↦ getD-set-other t p k (i - 1) 0 e ∙ other-page k e b
-          ]
+  -- its page is p
+  module _ {p : ℕ} (q : entry .page .0 ≡ p) where
+    -- another page's frame stays
+    other-page : (k : ℕ) → k ≢ p → k < pageLimit → getD t k 0 ≡ from c r n (i - 1) k
+    other-page k d b = stays k b (fails _ (λ h. d (sym (holds-page r (record { 0 = k }) entry h .page) ∙ q)))
+
+    -- it is the region's, and the page is listed
+    same-page : entry .usage ≡ usageOf r → p < length t → (k : ℕ) → k < pageLimit → getD (set t p (i - 1)) k 0 ≡ from c r n (i - 1) k
+    same-page u l k b =
+        elim (ℕ-discrete k p) [
+          | yes z ↦
+              rw z
+              (getD-set-same t p (i - 1) 0 l
+              ∙ sym
+              (seek-hit (claims c (page r p)) (i - 1) n (omega arith)
+              (claims-holds c (i - 1) (page r p) ∙ page-holds r (record { 0 = p }) entry (record { usage = u; page = q }))))
+          | no z ↦ getD-set-other t p k (i - 1) 0 z ∙ other-page k z b
+        ]
 
 -- after every entry
-listed : (c : List ℕ) (r : Region) (n i x k : ℕ) → i ≡ 0 → n ≡ frames c → x ≡ from c r n i k → x ≡ lowest (has c r k) (frames c)
-listed c r n i x k z f e = e ∙ rw (z, f) (search-start (has c r k) (frames c))
+all-listed : (c : List ℕ) (r : Region) (n i x k : ℕ) → i ≡ 0 → n ≡ frames c → x ≡ from c r n i k → x ≡ lowest (claims c (page r k)) (frames c)
+all-listed c r n i x k z f e = e ∙ rw (z, f) (search-start (claims c (page r k)) (frames c))
 
 abbrev Inv-loop : tie.InvT-loop
 Inv-loop c usage frames table₀ i₀ table i =
@@ -87,6 +91,28 @@ Inv-loop c usage frames table₀ i₀ table i =
 
 abbrev μ-loop : tie.MeasureT-loop
 μ-loop c usage frames table₀ i₀ table i = i
+
+-- at the loop: the function's start
+abbrev start-of : tie.At-loop Inv-loop μ-loop → tie.Start Inv-loop μ-loop
+start-of c = c .before .before .before .before
+
+-- once the use byte is read: where the turn began
+abbrev turn-of : tie.After-usage-at Inv-loop μ-loop → tie.At-loop Inv-loop μ-loop
+turn-of c = c .before .before
+
+-- that turn, for the region whose frames have the use byte
+turn : (c : tie.After-usage-at Inv-loop μ-loop) (r : Region) → turn-of c .before .before .usage-of .result ≡ usageOf r
+    → Turn (start-of (turn-of c) .args .c .now) r (turn-of c .before .frame-count .result) (turn-of c .loop .i) (turn-of c .loop .table)
+turn c r e = record { some = c .before .loop-test .taken; most = turn-of c .loop .inv .0; listed = turn-of c .loop .inv .2 r e }
+
+-- once the entry is read: where the use byte was
+abbrev used-of : tie.After-entry-at Inv-loop μ-loop → tie.After-usage-at Inv-loop μ-loop
+used-of c = c .before .before
+
+-- the page that is read is the entry's
+page-read : (c : tie.After-entry-at Inv-loop μ-loop)
+    → frameEntryOf (start-of (turn-of (used-of c)) .args .c .now) (turn-of (used-of c) .loop .i - 1) .page .0 ≡ c .entry-at .result .page .0
+page-read c = ap (λ (e : FrameEntry). e .page .0) (sym (c .entry-at .ensures))
 
 usage-of-requires : tie.Need-usage-of-requires Inv-loop μ-loop
 usage-of-requires c κs = tt
@@ -98,31 +124,22 @@ cast-table : tie.Need-cast-table Inv-loop μ-loop
 cast-table c = let v = control-facts _ (c .before .before .before .pre) in omega arith
 
 loop-holds : tie.Need-loop-holds Inv-loop μ-loop
-loop-holds c = (omega arith, length-replicate {A = ℕ} 4096 (c .frame-count .result), λ r e k l. start _ r _ 4096 k l)
+loop-holds c = (omega arith, length-replicate {A = ℕ} pageLimit (c .frame-count .result), λ r e k l. start _ r _ pageLimit k l)
 
 sub-i : tie.Need-sub-i Inv-loop μ-loop
 sub-i c = omega arith
 
-mul-at : tie.Need-mul-at Inv-loop μ-loop
-mul-at c = let v = control-facts _ (c .before .before .before .before .before .pre) in omega arith
+usage-at-requires : tie.Need-usage-at-requires Inv-loop μ-loop
+usage-at-requires c κs = entry-inside _ _ (start-of (c .before) .pre) (omega arith)
 
-add-at : tie.Need-add-at Inv-loop μ-loop
-add-at c = let v = control-facts _ (c .before .before .before .before .before .pre) in omega arith
-
-shared-slice-read-if1 : tie.Need-shared-slice-read-if1 Inv-loop μ-loop
-shared-slice-read-if1 c = let v = control-facts _ (c .before .before .before .before .before .before .pre) in omega arith
-
-add-u16-at : tie.Need-add-u16-at Inv-loop μ-loop
-add-u16-at c = let v = control-facts _ (c .before .before .before .before .before .before .before .pre) in omega arith
-
-u16-at-requires : tie.Need-u16-at-requires Inv-loop μ-loop
-u16-at-requires c κs = let v = control-facts _ (c .before .before .before .before .before .before .before .pre) in omega arith
+entry-at-requires : tie.Need-entry-at-requires Inv-loop μ-loop
+entry-at-requires c κs = usage-at-requires (c .before .before) κs
 
 cast-page : tie.Need-cast-page Inv-loop μ-loop
 cast-page c = omega arith
 
 cast-table-2 : tie.Need-cast-table-2 Inv-loop μ-loop
-cast-table-2 c = let v = control-facts _ (c .before .before .before .before .before .before .before .before .before .pre) in omega arith
+cast-table-2 c = let v = control-facts _ (start-of (turn-of (c .before .before .before .before)) .pre) in omega arith
 
 mul-table : tie.Need-mul-table Inv-loop μ-loop
 mul-table c = omega arith
@@ -135,10 +152,11 @@ loop-less c = omega arith
 
 loop-again : tie.Need-loop-again Inv-loop μ-loop
 loop-again c =
-    let t = c .before .before .before .before in (
+    let e = c .before .before in
+    let f = used-of e in (
       omega arith,
-      simp length-set (t .before .loop .inv .1),
-      λ r e. same-page _ r _ _ (t .loop-test .taken) (t .before .loop .inv .0) (t .before .loop .table) (t .before .loop .inv .2 r e) _ (c .before .u16-at .ensures) (c .before .before .if1 .taken ∙ e) (omega arith),
+      simp length-set (turn-of f .loop .inv .1),
+      λ r u. same-page (turn f r u) (page-read e) (sym (f .usage-at .ensures) ∙ e .before .if1 .taken ∙ u) (omega arith),
     )
 
 loop-less-2 : tie.Need-loop-less-2 Inv-loop μ-loop
@@ -146,25 +164,23 @@ loop-less-2 c = omega arith
 
 loop-again-2 : tie.Need-loop-again-2 Inv-loop μ-loop
 loop-again-2 c =
-    let t = c .before .before .before .before in (
-      omega arith,
-      t .before .loop .inv .1,
-      λ r e k l. other-page _ r _ _ (t .loop-test .taken) (t .before .loop .inv .0) (t .before .loop .table) (t .before .loop .inv .2 r e) _ (c .before .u16-at .ensures) k (omega arith) l,
-    )
+    let e = c .before .before in
+    let f = used-of e in
+    (omega arith, turn-of f .loop .inv .1, λ r u k l. other-page (turn f r u) (page-read e) k (omega arith) l)
 
 loop-less-3 : tie.Need-loop-less-3 Inv-loop μ-loop
 loop-less-3 c = omega arith
 
 loop-again-3 : tie.Need-loop-again-3 Inv-loop μ-loop
 loop-again-3 c =
-    let t = c .before .before in
-    (omega arith, t .before .loop .inv .1, λ r e. other-use _ r _ _ (t .loop-test .taken) (t .before .loop .inv .0) (t .before .loop .table) (t .before .loop .inv .2 r e) (λ h. c .if1 .left (h ∙ sym e)))
+    let f = c .before in
+    (omega arith, turn-of f .loop .inv .1, λ r u. other-use (turn f r u) (λ h. c .if1 .left (f .usage-at .ensures ∙ h ∙ sym u)))
 
 returns : tie.Need-returns Inv-loop μ-loop
 returns c =
     record {
       size = c .before .loop .inv .1;
-      each = λ k l. listed _ _ _ _ _ k (omega arith) (c .before .before .frame-count .ensures .0) (c .before .loop .inv .2 _ (c .before .before .before .usage-of .ensures) k l);
+      each = λ k l. all-listed _ _ _ _ _ k (omega arith) (c .before .before .frame-count .ensures .0) (c .before .loop .inv .2 _ (c .before .before .before .usage-of .ensures) k l);
     }
 
 pub frames-by-page-spec : {M : Type 1} → statement M
@@ -178,11 +194,8 @@ frames-by-page-spec =
     cast-table
     loop-holds
     sub-i
-    mul-at
-    add-at
-    shared-slice-read-if1
-    add-u16-at
-    u16-at-requires
+    usage-at-requires
+    entry-at-requires
     cast-page
     cast-table-2
     mul-table

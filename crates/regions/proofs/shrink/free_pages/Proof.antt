@@ -9,7 +9,7 @@ use Rattle.control.specs.declared.shadow.Region.{Region}
 use Rattle.frames.specs.Table.{freeFrameEntry}
 use Rattle.regions.specs.Resize.{pageFrame, freeFound, shrunk}
 use Rattle.regions.proofs.Pages.{entry-inside}
-use Rattle.regions.proofs.Shrunk.{FoundAt, held-between, shrunk-only}
+use Rattle.regions.proofs.Shrunk.{FoundAt, shrunk-only}
 use Rattle.regions.proofs.Listed.{Framed, framed, listed-below}
 use Rattle.regions.proofs.shrink.free_pages.Statement.{statement}
 use Rattle.regions.proofs.shrink.free_pages.Tie as tie
@@ -38,17 +38,23 @@ Inv-loop c₀ table r pages size k₀ c k = (pages ≤ k) × (k ≤ size) × (c 
 abbrev μ-loop : tie.MeasureT-loop
 μ-loop c₀ table r pages size k₀ c k = size - k
 
--- once the page is known: the function's start
+-- once the page is known: where the turn began, and the function
+abbrev turn-of : tie.After-page-at Inv-loop μ-loop → tie.At-loop Inv-loop μ-loop
+turn-of c = c .before .before
+
 abbrev start-of : tie.After-page-at Inv-loop μ-loop → tie.Start Inv-loop μ-loop
-start-of c = c .before .before .before .before
+start-of c = turn-of c .before .before
+
+-- once its frame is freed: where it was known
+abbrev page-of : tie.After-free-frame-entry Inv-loop μ-loop → tie.After-page-at Inv-loop μ-loop
+page-of c = c .before .before .before .before
 
 -- the frame of the page that is freed
-frame-at : (c : tie.After-page-at Inv-loop μ-loop) → Framed (start-of c .args .c .now) (start-of c .args .r) (c .before .before .loop .k) (getD (start-of c .args .table .now) (c .page-at .result .0) 0)
+frame-at : (c : tie.After-page-at Inv-loop μ-loop) → Framed (start-of c .args .c .now) (start-of c .args .r) (turn-of c .loop .k) (getD (start-of c .args .table .now) (c .page-at .result .0) 0)
 frame-at c =
-    let l = c .before .before .loop in
+    let l = turn-of c .loop in
     let s = start-of c in
-    framed (s .pre .0 .1) (l .k) (omega arith) (c .page-at .result) (c .page-at .ensures)
-    (held-between _ _ _ _ _ (l .inv .0) (c .before .loop-test .taken) (s .pre .1))
+    framed (s .pre .0 .1) (l .k) (omega arith) (c .page-at .result) (c .page-at .ensures) _ _ (l .inv .0) (c .before .loop-test .taken) (s .pre .1)
 
 loop-holds : tie.Need-loop-holds Inv-loop μ-loop
 loop-holds c = (omega arith, omega arith, start _ _ _)
@@ -64,13 +70,14 @@ mul-t13 c = omega arith
 
 element-copy-out-t16 : tie.Need-element-copy-out-t16 Inv-loop μ-loop
 element-copy-out-t16 c =
-    listed-below (start-of (c .before .before) .pre .0 .1) (c .before .before .before .before .loop .k) (omega arith) (c .before .before .page-at .result) (c .before .before .page-at .ensures)
+    let p = c .before .before in
+    listed-below (start-of p .pre .0 .1) (turn-of p .loop .k) (omega arith) (p .page-at .result) (p .page-at .ensures)
 
 free-frame-entry-requires : tie.Need-free-frame-entry-requires Inv-loop μ-loop
 free-frame-entry-requires c κs =
     let p = c .before .before .before in
     let x = entry-inside _ _ (start-of p .pre .0 .0) (frame-at p .below) in
-    let y = same _ _ _ _ _ (p .before .before .loop .inv .2) in
+    let y = same _ _ _ _ _ (turn-of p .loop .inv .2) in
     omega arith
 
 add-k : tie.Need-add-k Inv-loop μ-loop
@@ -81,9 +88,10 @@ loop-less c = omega arith
 
 loop-again : tie.Need-loop-again Inv-loop μ-loop
 loop-again c =
-    let p = c .before .before .before .before .before .before in
-    let l = p .before .before .loop in
-    (omega arith, omega arith, turn _ _ _ _ _ (l .inv .2) (l .inv .0) _ (frame-at p .found) _ (c .before .before .free-frame-entry .ensures))
+    let f = c .before .before in
+    let p = page-of f in
+    let l = turn-of p .loop in
+    (omega arith, omega arith, turn _ _ _ _ _ (l .inv .2) (l .inv .0) _ (frame-at p .found) _ (f .free-frame-entry .ensures))
 
 same-length : tie.Need-same-length Inv-loop μ-loop
 same-length c = same _ _ _ _ _ (c .before .loop .inv .2)

@@ -3,6 +3,7 @@
 use Prim.Native.Nat.{_+_, _-_, _%_}
 use native.Mathlib.Omega.{arith}
 use borrow.Author.Needs.{needs}
+use Rattle.layout.specs.Page.{pageSize}
 use Rattle.segments.specs.Kinds.{within}
 use Rattle.segments.proofs.Requests.{same-leb}
 use Rattle.segments.proofs.kinds.within.Statement.{statement}
@@ -14,9 +15,9 @@ sub-result c = search needs
 returns : tie.Need-returns
 unfolding within
 returns c =
-    let o = c .args .offset % 4096 in
+    let o = c .args .offset % pageSize in
     let n = c .args .n in
-    same-leb n (4096 - o) (o + n) 4096 (omega arith) (omega arith)
+    same-leb n (pageSize - o) (o + n) pageSize (omega arith) (omega arith)
 
 pub within-spec : {M : Type 1} → statement M
 within-spec = tie.close (tie.spec sub-result returns)

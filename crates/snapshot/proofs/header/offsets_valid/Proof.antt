@@ -7,6 +7,7 @@ use native.Mathlib.Omega.{arith}
 use lib.Dec.{eqb}
 use borrow.Author.Needs.{needs}
 use borrow.Author.Tests.{eq-eqb, ne-eqb}
+use Rattle.layout.specs.Snapshot.{headerSize, entrySize, contextSize}
 use Rattle.snapshot.specs.Header.{offsetsValid}
 use Rattle.snapshot.specs.declared.header.Header.{Header}
 use Rattle.snapshot.proofs.header.offsets_valid.Statement.{statement}
@@ -14,25 +15,25 @@ use Rattle.snapshot.proofs.header.offsets_valid.Tie as tie
 
 module _ (h : Header) where
   -- the account table is elsewhere
-  other-accounts : (h .«accounts_at» ≡ 32 → ⊥) → false ≡ offsetsValid h
+  other-accounts : (h .«accounts_at» ≡ headerSize → ⊥) → false ≡ offsetsValid h
   unfolding offsetsValid
   other-accounts n = rw (ne-eqb _ _ n)
 
-  module _ (a : h .«accounts_at» ≡ 32) where
+  module _ (a : h .«accounts_at» ≡ headerSize) where
     -- the contexts are elsewhere
-    other-contexts : (h .«contexts_at» ≡ 32 + 80 * h .accounts → ⊥) → false ≡ offsetsValid h
+    other-contexts : (h .«contexts_at» ≡ headerSize + entrySize * h .accounts → ⊥) → false ≡ offsetsValid h
     unfolding offsetsValid
     other-contexts n = rw (eq-eqb _ _ a, ne-eqb _ _ n)
 
-    module _ (b : h .«contexts_at» ≡ 32 + 80 * h .accounts) where
+    module _ (b : h .«contexts_at» ≡ headerSize + entrySize * h .accounts) where
       -- the transaction is elsewhere
-      other-transaction : (h .«transaction_at» ≡ 32 + 80 * h .accounts + 120 * h .contexts → ⊥) → false ≡ offsetsValid h
+      other-transaction : (h .«transaction_at» ≡ headerSize + entrySize * h .accounts + contextSize * h .contexts → ⊥) → false ≡ offsetsValid h
       unfolding offsetsValid
       other-transaction n = rw (eq-eqb _ _ a, eq-eqb _ _ b, ne-eqb _ _ n)
 
       -- the data's place decides
-      left : h .«transaction_at» ≡ 32 + 80 * h .accounts + 120 * h .contexts
-          → eqb (h .«data_at») (32 + 80 * h .accounts + 120 * h .contexts + h .transaction) ≡ offsetsValid h
+      left : h .«transaction_at» ≡ headerSize + entrySize * h .accounts + contextSize * h .contexts
+          → eqb (h .«data_at») (headerSize + entrySize * h .accounts + contextSize * h .contexts + h .transaction) ≡ offsetsValid h
       unfolding offsetsValid
       left t = rw (eq-eqb _ _ a, eq-eqb _ _ b, eq-eqb _ _ t)
 

@@ -9,6 +9,7 @@ use lib.Dec.{leb}
 use lib.ListN.{length}
 use borrow.Author.Needs.{needs}
 use borrow.Author.Tests.{le-leb, lt-leb, eq-eqb, ne-eqb}
+use Rattle.layout.specs.Snapshot.{headerSize}
 use Rattle.snapshot.specs.Header.{headerOf, countsValid, offsetsValid, totalValid, snapshotValid}
 use Rattle.snapshot.specs.declared.header.Header.{Header}
 use Rattle.snapshot.proofs.Facts.{counts-limited}
@@ -16,11 +17,11 @@ use Rattle.snapshot.proofs.header.valid.Statement.{statement}
 use Rattle.snapshot.proofs.header.valid.Tie as tie
 
 -- the snapshot is too short for a header
-short : (s : List ℕ) → length s < 32 → false ≡ snapshotValid s
+short : (s : List ℕ) → length s < headerSize → false ≡ snapshotValid s
 unfolding snapshotValid
 short s l = rw (lt-leb _ _ l)
 
-module _ (s : List ℕ) {h : Header} {r : Bool} (l : 32 ≤ length s) (e : h ≡ headerOf s) (p : r ≡ countsValid h) where
+module _ (s : List ℕ) {h : Header} {r : Bool} (l : headerSize ≤ length s) (e : h ≡ headerOf s) (p : r ≡ countsValid h) where
   -- the counts decide
   bad-counts : r ≡ false → false ≡ snapshotValid s
   unfolding snapshotValid

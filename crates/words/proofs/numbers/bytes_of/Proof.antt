@@ -4,6 +4,7 @@ use mathlib.Core.Path.{_≡_}
 use mathlib.Core.List.{[], _∷_}
 use Prim.Native.Nat.{ℕ, _/_, _%_, _<_, _^_}
 use native.Mathlib.Omega.{arith}
+use Rattle.layout.specs.Address.{offsets, addresses}
 use Rattle.words.specs.Words.{wordBytes}
 use Rattle.words.proofs.numbers.bytes_of.Statement.{statement}
 use Rattle.words.proofs.numbers.bytes_of.Tie as tie
@@ -13,21 +14,21 @@ spell : (v : ℕ) → v < 2 ^ 64
     → (v % 256)
     ∷ (v / 256 % 256)
     ∷ (v / 65536 % 256)
-    ∷ (v / 16777216 % 256)
+    ∷ (v / offsets % 256)
     ∷ (v / 4294967296 % 256)
     ∷ (v / 1099511627776 % 256)
-    ∷ (v / 281474976710656 % 256)
+    ∷ (v / addresses % 256)
     ∷ (v / 72057594037927936)
     ∷ []
     ≡ wordBytes 8 v
 unfolding wordBytes
 spell v h =
     let e₂ : v / 256 / 256 ≡ v / 65536 = omega arith in
-    let e₃ : v / 65536 / 256 ≡ v / 16777216 = omega arith in
-    let e₄ : v / 16777216 / 256 ≡ v / 4294967296 = omega arith in
+    let e₃ : v / 65536 / 256 ≡ v / offsets = omega arith in
+    let e₄ : v / offsets / 256 ≡ v / 4294967296 = omega arith in
     let e₅ : v / 4294967296 / 256 ≡ v / 1099511627776 = omega arith in
-    let e₆ : v / 1099511627776 / 256 ≡ v / 281474976710656 = omega arith in
-    let e₇ : v / 281474976710656 / 256 ≡ v / 72057594037927936 = omega arith in
+    let e₆ : v / 1099511627776 / 256 ≡ v / addresses = omega arith in
+    let e₇ : v / addresses / 256 ≡ v / 72057594037927936 = omega arith in
     let e₈ : v / 72057594037927936 % 256 ≡ v / 72057594037927936 = omega arith in
     rw (e₂, e₃, e₄, e₅, e₆, e₇, e₈)
 

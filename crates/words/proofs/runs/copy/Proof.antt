@@ -7,6 +7,7 @@ use native.Mathlib.Omega.{arith}
 use native.Mathlib.Numerals.{add-one}
 use lib.ListN.{length, getD, set, take, length-set, length-replicate}
 use lib.Seq.{take-suc-set}
+use Rattle.layout.specs.Page.{pageSize}
 use Rattle.words.specs.Words.{splice, bytesAt}
 use Rattle.words.proofs.Run.{run-append}
 use Rattle.words.proofs.runs.copy.Statement.{statement}
@@ -30,14 +31,14 @@ stop src page dst₀ dst from to n i l m e f =
     f ∙ ap (λ (r : List ℕ). splice dst₀ to r) (rw z at e)
 
 abbrev Inv-loop : tie.InvT-loop
-Inv-loop dst to src from n page₀ i₀ page i = (i ≤ n) × (length page ≡ 4096) × (take i page ≡ bytesAt i src from)
+Inv-loop dst to src from n page₀ i₀ page i = (i ≤ n) × (length page ≡ pageSize) × (take i page ≡ bytesAt i src from)
 
 abbrev μ-loop : tie.MeasureT-loop
 μ-loop dst to src from n page₀ i₀ page i = n - i
 
 loop-holds : tie.Need-loop-holds Inv-loop μ-loop
 unfolding bytesAt
-loop-holds c = (omega arith, length-replicate {A = ℕ} 4096 0, refl)
+loop-holds c = (omega arith, length-replicate {A = ℕ} pageSize 0, refl)
 
 add-page : tie.Need-add-page Inv-loop μ-loop
 add-page c = omega arith

@@ -1,0 +1,74 @@
+// Where a byte stands whose page may be in a frame: account data and the regions.
+use super::place::NewCopy;
+use super::place::Place;
+use super::place::Translation;
+use control::header::invocation_count;
+use control::shadow::Region;
+use frames::finding::Claim;
+use frames::finding::Found;
+use frames::finding::frame_of;
+use frames::finding::free_frame;
+use frames::table::frame_entry;
+use pages::in_frame;
+use pages::page_of;
+use refusal::Refusal;
+use segments::kinds::is_store;
+use snapshot::accounts::Account;
+ghost use mathlib.Core.Path.{_≡_};
+ghost use mathlib.Core.Bool.{true};
+ghost use Prim.Native.Nat.{_<_};
+ghost use Rattle.layout.specs.Address.{offsets};
+ghost use Rattle.control.specs.Control.{controlValid};
+ghost use Rattle.frames.specs.Table.{freeFrame};
+ghost use Rattle.translate.specs.Translate.{copyPlace, dataPlace, regionPlace};
+
+// A frame that would be taken for a copy of the page, or that there is none.
+fn copy_place(c: &[u8], a: Account, offset: usize) -> Translation
+    requires { ⌜ (controlValid (now c) ≡ true) × (offset < offsets) ⌝ }
+    ensures { λ r. ⌜ r ≡ copyPlace a offset (freeFrame (now (c .entry))) ⌝ }
+{
+    match free_frame(c) {
+        Found::At(f) => Translation::Allowed(Place::Take(NewCopy {
+            at: in_frame(f, offset),
+            frame: f,
+            account: a,
+            page: page_of(offset),
+        })),
+        Found::Nothing => Translation::Refused(Refusal::NoFrame),
+    }
+}
+
+// Where an account's byte stands now: in the page's frame, else where the snapshot has it, or for a store in a frame to be taken.
+pub fn data_place(c: &[u8], kind: u8, a: Account, offset: usize, at: usize) -> Translation
+    requires { ⌜ (controlValid (now c) ≡ true) × (offset < offsets) ⌝ }
+    ensures { λ r. ⌜ r ≡ dataPlace (now (c .entry)) kind a offset at ⌝ }
+{
+    match frame_of(c, Claim::Copy(a, page_of(offset))) {
+        Found::At(f) => Translation::Allowed(Place::InPool(in_frame(f, offset))),
+        Found::Nothing => {
+            if is_store(kind) {
+                return copy_place(c, a, offset);
+            }
+            Translation::Allowed(Place::InSnapshot(at))
+        }
+    }
+}
+
+// Where a region's byte stands: in the page's frame, if the frame's tag lets the kind pass.
+pub fn region_place(c: &[u8], r: Region, kind: u8, offset: usize) -> Translation
+    requires { ⌜ (controlValid (now c) ≡ true) × (offset < offsets) ⌝ }
+    ensures { λ t. ⌜ t ≡ regionPlace (now (c .entry)) r kind offset ⌝ }
+{
+    let depth = invocation_count(c) - 1;
+    match frame_of(c, Claim::Anonymous(r, page_of(offset))) {
+        Found::At(f) => {
+            if is_store(kind) {
+                if (frame_entry(c, f).tag as usize) < depth {
+                    return Translation::Refused(Refusal::NotPermitted);
+                }
+            }
+            Translation::Allowed(Place::InPool(in_frame(f, offset)))
+        }
+        Found::Nothing => Translation::Refused(Refusal::Invalid),
+    }
+}
