@@ -6,11 +6,11 @@ use mathlib.Core.Bool.{true}
 use mathlib.Core.List.{List}
 use lib.ListN.{length}
 use Rattle.layout.specs.Page.{pageSize}
-use Rattle.words.specs.Words.{splice}
+use Rattle.words.specs.Words.{isSize, splice}
 use Rattle.words.proofs.Splice.{length-splice}
 use Rattle.refusal.specs.declared.Refusal.{Refusal}
 use Rattle.segments.specs.Kinds.{isStore, requestValid}
-use Rattle.segments.proofs.Requests.{request-short, request-length}
+use Rattle.segments.proofs.Requests.{request-size, request-length}
 use Rattle.translate.specs.Place.{outcomeOf}
 use Rattle.translate.specs.Translate.{translateOf}
 use Rattle.translate.specs.Fits.{Fits}
@@ -96,9 +96,9 @@ module _ (s c p : List ℕ) (kind a n : ℕ) {t : Translation} (is : t ≡ trans
   pub place-room : Fits s c p n q
   place-room = translate-fits s c p kind a n q (sym is ∙ e)
 
-  -- which are at most 8 where it is no span
-  pub place-short : kind < 3 → n ≤ 8
-  place-short h = request-short kind n request h .1
+  -- which are 1, 2, 4 or 8 where it is no span
+  pub place-size : kind < 3 → isSize n ≡ true
+  place-size h = request-size kind n request h
 
   -- and at most 4,096 in all cases
   pub place-long : n ≤ pageSize

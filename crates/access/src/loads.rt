@@ -12,9 +12,11 @@ use words::numbers::read;
 use words::runs::clear;
 use words::runs::copy;
 ghost use mathlib.Core.Path.{_≡_};
+ghost use mathlib.Core.Bool.{true};
 ghost use Prim.Native.Nat.{_≤_};
 ghost use lib.ListN.{length};
 ghost use Rattle.layout.specs.Page.{pageSize};
+ghost use Rattle.words.specs.Words.{isSize};
 ghost use Rattle.translate.specs.Fits.{Fits};
 ghost use Rattle.access.specs.Loads.{valueAt, loadOf, fetchOf, spanAt, loadSpanOutcome, loadSpanOut};
 
@@ -24,9 +26,9 @@ pub struct Value {
     pub outcome: Outcome,
 }
 
-// The number of n bytes at a place.
+// The number of n bytes at a place, n being 1, 2, 4 or 8.
 fn value_at(s: &[u8], c: &[u8], pool: &[u8], place: Place, n: usize) -> u64
-    requires { ⌜ (n ≤ 8) × Fits (now s) (now c) (now pool) n place ⌝ }
+    requires { ⌜ (isSize n ≡ true) × Fits (now s) (now c) (now pool) n place ⌝ }
     ensures { λ r. ⌜ r ≡ valueAt (now (s .entry)) (now (c .entry)) (now (pool .entry)) n place ⌝ }
 {
     match place {

@@ -3,6 +3,7 @@ use super::copies::take_copy;
 use address::Address;
 use segments::kinds::STORE;
 use segments::kinds::STORE_SPAN;
+use translate::place::NewCopy;
 use translate::place::Outcome;
 use translate::place::Place;
 use translate::place::Translation;
@@ -16,7 +17,8 @@ ghost use Rattle.words.specs.Words.{wordBytes};
 ghost use Rattle.segments.specs.Kinds.{kindStore, kindStoreSpan};
 ghost use Rattle.access.specs.Stores.{Writable, placeInPool, preparedControl, preparedPool, storeOutcome, storeControl, storePool};
 
-// Makes the page of a store's place writable, and gives the place in the pool: a page with a frame is ready, one without gets a copy.
+// Makes the page of a store's place writable, and gives the place in the pool: a page with a frame is ready, one without gets a copy. The
+// three numbers of a copy are read one by one, as translation wrote them: read at once they wait for the three stores.
 fn make_writable(s: &[u8], c: &mut [u8], pool: &mut [u8], place: Place) -> usize
     requires { ⌜ Writable (now s) (now c) (now pool) place ⌝ }
     ensures { λ r. ⌜ r ≡ placeInPool place ⌝ }
@@ -26,7 +28,16 @@ fn make_writable(s: &[u8], c: &mut [u8], pool: &mut [u8], place: Place) -> usize
     match place {
         Place::InPool(at) => at,
         Place::Take(t) => {
-            take_copy(s, c, pool, t);
+            let frame = t.frame;
+            let account = t.account;
+            let page = t.page;
+            let new = NewCopy {
+                at: t.at,
+                frame,
+                account,
+                page,
+            };
+            take_copy(s, c, pool, new);
             t.at
         }
         Place::InSnapshot(_) => 0,

@@ -36,7 +36,8 @@ pub fn set_invocations(c: &mut [u8], d: usize)
     write(c, 4, 4, d as u64);
 }
 
-// Whether the header keeps its rules and the length is the one that the frame count gives.
+// Whether the header keeps its rules and the length is the one that the frame count gives. The length is tested before the limit: a compiler
+// that knows the limit reads the frame count in two halves.
 pub fn valid(c: &[u8]) -> bool
     ensures { λ r. ⌜ r ≡ controlValid (now (c .entry)) ⌝ }
 {
@@ -44,6 +45,9 @@ pub fn valid(c: &[u8]) -> bool
         return false;
     }
     let f = u32_at(c, 0);
+    if c.len() != TABLE_AT + FRAME_ENTRY * f {
+        return false;
+    }
     if FRAMES < f {
         return false;
     }
@@ -57,8 +61,5 @@ pub fn valid(c: &[u8]) -> bool
     if u32_at(c, 8) != SHADOW_AT {
         return false;
     }
-    if u32_at(c, 12) != TABLE_AT {
-        return false;
-    }
-    c.len() == TABLE_AT + FRAME_ENTRY * f
+    u32_at(c, 12) == TABLE_AT
 }

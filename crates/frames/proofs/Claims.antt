@@ -8,8 +8,9 @@ use native.Mathlib.Decide.{ℕ-discrete}
 use native.Mathlib.Omega.{arith}
 use lib.ListN.{length}
 use lib.Dec.{eqb}
-use borrow.Author.Tests.{eqb-true, eq-eqb}
+use borrow.Author.Tests.{eqb-true, eq-eqb, lt-ltb, le-ltb}
 use Rattle.layout.specs.Control.{usageCopy}
+use Rattle.choice.specs.Search.{lowest}
 use Rattle.choice.proofs.Tests.{both-true}
 use Rattle.choice.proofs.Lowest.{lowest-ext}
 use Rattle.snapshot.specs.declared.accounts.Account.{Account}
@@ -117,6 +118,18 @@ module _ (c : List ℕ) (i : ℕ) where
 -- ---- the frame of a page
 
 module _ (c : List ℕ) (q : Claim) where
+  -- a search that ends at i, of all n entries
+  module _ {n i : ℕ} (all : n ≡ frames c) (searched : i ≡ lowest (claims c q) n) where
+    -- below n it found that frame
+    pub search-found : i < n → frameOf c q ≡ At (record { 0 = i })
+    unfolding frameOf foundIn
+    search-found h = rw (← all, ← searched, lt-ltb i n h)
+
+    -- else it found none
+    pub search-none : n ≤ i → frameOf c q ≡ Nothing
+    unfolding frameOf foundIn
+    search-none h = rw (← all, ← searched, le-ltb i n h)
+
   -- the frame that is found is the first that claims the page
   pub frame-found : (f : Frame) → frameOf c q ≡ At f → First (claims c q) (frames c) (f .0)
   unfolding frameOf

@@ -56,8 +56,8 @@ fn as_found(i: usize, frames: usize) -> Found
     Found::Nothing
 }
 
-// The lowest entry that is a copy of the account's page; the account and the page are compared as one u32.
-fn lowest_copy(c: &[u8], frames: usize, a: Account, p: Page) -> usize
+// The lowest entry that is a copy of the account's page, the frame count where none is. The account and the page are compared as one u32.
+pub fn lowest_copy(c: &[u8], frames: usize, a: Account, p: Page) -> usize
     requires { ⌜ (frames ≤ frameLimit) × (controlLength frames ≤ length (now c)) ⌝ }
     ensures { λ r. ⌜ r ≡ lowest (claims (now (c .entry)) (Copy a p)) frames ⌝ }
 {
@@ -75,8 +75,8 @@ fn lowest_copy(c: &[u8], frames: usize, a: Account, p: Page) -> usize
     frames
 }
 
-// The lowest entry that holds the region's page.
-fn lowest_page(c: &[u8], frames: usize, r: Region, p: Page) -> usize
+// The lowest entry that holds the region's page, the frame count where none does.
+pub fn lowest_page(c: &[u8], frames: usize, r: Region, p: Page) -> usize
     requires { ⌜ (frames ≤ frameLimit) × (controlLength frames ≤ length (now c)) ⌝ }
     ensures { λ n. ⌜ n ≡ lowest (claims (now (c .entry)) (Anonymous r p)) frames ⌝ }
 {

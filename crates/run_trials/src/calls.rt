@@ -10,9 +10,12 @@ use apply::apply;
 use changes::list::change_list;
 use invoke::begin::Start;
 use invoke::begin::begin;
+use layout::list::LIST_HEADER;
 use regions::resize::resize;
 use snapshot::accounts::Account;
-use words::numbers::padded;
+use words::numbers::u32_at;
+ghost use Prim.Native.Nat.{_+_, _≤_};
+ghost use lib.ListN.{length};
 
 // Begins the program, account 0.
 pub fn begin_program(snapshot: &[u8], control: &mut [u8], pool: &[u8]) {
@@ -58,20 +61,24 @@ pub fn store_byte(snapshot: &[u8], control: &mut [u8], pool: &mut [u8], address:
 }
 
 // Prints the u32 at a place.
-fn show_word(list: &[u8], at: usize) {
+fn show_word(list: &[u8], at: usize)
+    requires { ⌜ at + 4 ≤ length (now list) ⌝ }
+{
     say(b" ");
-    number(padded(list, at, 4));
+    number(u32_at(list, at) as u64);
 }
 
-// Writes the change list, and prints the four words of its header.
+// Writes the change list, and prints the four words of its header where there is room for them.
 pub fn list_changes(snapshot: &[u8], control: &[u8], pool: &[u8], list: &mut [u8]) {
     say(b"  change list");
     answered(change_list(snapshot, control, pool, list));
     say(b"  words");
-    show_word(list, 0);
-    show_word(list, 4);
-    show_word(list, 8);
-    show_word(list, 12);
+    if LIST_HEADER <= list.len() {
+        show_word(list, 0);
+        show_word(list, 4);
+        show_word(list, 8);
+        show_word(list, 12);
+    }
     say(b"\n");
 }
 

@@ -3,6 +3,7 @@ use Prim.Native.Nat.{ℕ, _+_, _%_}
 use mathlib.Core.Bool.{Bool}
 use lib.Dec.{leb, eqb}
 use Rattle.layout.specs.Page.{pageSize}
+use Rattle.words.specs.Words.{isSize}
 use Rattle.choice.specs.Choice.{pick, both, either}
 
 -- the kinds: 0 load, 1 store, 2 fetch, 3 span load, 4 span store
@@ -36,10 +37,6 @@ isFetch kind = eqb kind kindFetch
 -- a span load or a span store, of the known kinds
 abbrev pub isSpan : ℕ → Bool
 isSpan kind = leb kindLoadSpan kind
-
--- "Loads, stores and fetches have size 1, 2, 4 or 8"
-abbrev pub isSize : ℕ → Bool
-isSize n = either (eqb n 1) (either (eqb n 2) (either (eqb n 4) (eqb n 8)))
 
 -- "2 | unknown kind or wrong length"; "A span load or span store moves 1 to 4,096 bytes"
 unfoldable pub requestValid : ℕ → ℕ → Bool

@@ -2,7 +2,8 @@
 use layout::page::PAGE;
 ghost use mathlib.Core.Path.{_≡_};
 ghost use mathlib.Core.Bool.{true};
-ghost use Rattle.segments.specs.Kinds.{isStore, isSize, requestValid, aligned, within};
+ghost use Rattle.words.specs.Words.{isSize};
+ghost use Rattle.segments.specs.Kinds.{isStore, requestValid, aligned, within};
 
 // A load.
 pub const LOAD: u8 = 0;
@@ -61,7 +62,7 @@ pub fn request_valid(kind: u8, n: usize) -> bool
     n <= PAGE
 }
 
-// Whether the offset is divisible by the length; a span is never misaligned.
+// Whether the offset is divisible by the length; a span is never misaligned. A length of 1, 2, 4 or 8 divides where the bits below it are 0.
 pub fn aligned(kind: u8, offset: usize, n: usize) -> bool
     requires { ⌜ requestValid kind n ≡ true ⌝ }
     ensures { λ r. ⌜ r ≡ aligned kind offset n ⌝ }
@@ -69,16 +70,7 @@ pub fn aligned(kind: u8, offset: usize, n: usize) -> bool
     if LOAD_SPAN <= kind {
         return true;
     }
-    if n == 8 {
-        return offset % 8 == 0;
-    }
-    if n == 4 {
-        return offset % 4 == 0;
-    }
-    if n == 2 {
-        return offset % 2 == 0;
-    }
-    true
+    offset & (n - 1) == 0
 }
 
 // Whether n bytes from the offset on stay in one page.

@@ -4,9 +4,10 @@ use super::kinds::is_store;
 ghost use mathlib.Core.Path.{_≡_};
 ghost use Rattle.segments.specs.Rules.{indexMatches, rowMatches, rowOf, rules, storable, permitted, fetchable};
 
-// Which indices a row is for.
+// Which indices a row is for. The index is a usize so that a row is no whole number of at most 8 bytes: such a one the compiler moves about as a
+// number, and takes apart again.
 pub enum IndexRule {
-    Exactly(u16),
+    Exactly(usize),
     AnyAccount,
 }
 
@@ -100,7 +101,7 @@ fn index_matches(r: IndexRule, index: u16, accounts: usize) -> bool
     ensures { λ b. ⌜ b ≡ indexMatches r index accounts ⌝ }
 {
     match r {
-        IndexRule::Exactly(k) => index == k,
+        IndexRule::Exactly(k) => index as usize == k,
         IndexRule::AnyAccount => (index as usize) < accounts,
     }
 }

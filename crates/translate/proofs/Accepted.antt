@@ -33,7 +33,7 @@ use Rattle.segments.proofs.Requests.{request-length, within-length}
 use Rattle.segments.proofs.Table.{type-data, data-known, metadata-known}
 use Rattle.translate.specs.Place.{refusing}
 use Rattle.translate.specs.Checks.{firstChecks, rowChecks}
-use Rattle.translate.specs.Translate.{concernedValid, owned, roomOf, rowCheck, startOf, dataPlace, placeOf, inRow, inSegment, translateOf, Named}
+use Rattle.translate.specs.Translate.{concernedValid, owned, endOf, rowCheck, startOf, sourceOf, dataPlace, placeIn, placeOf, inRow, inSegment, translateOf, Named}
 use Rattle.translate.specs.declared.place.Translation.{Translation}
 use Rattle.translate.specs.declared.place.Translation.the-variants.{Allowed, Refused}
 use Rattle.translate.specs.declared.request.Request.{Request}
@@ -86,7 +86,7 @@ pub record RowPassed (s c : List ℕ) (p : Presence) (rule : StoreRule) (q : Req
   pub aligned : aligned (q .kind) (q .offset) (q .length) ≡ true
   pub permitted : permitted (q .kind) p rule (owned s c p q) ≡ true
   pub within : q .offset % pageSize + q .length ≤ pageSize
-  pub present : q .length ≤ roomOf s c p q
+  pub present : q .offset + q .length ≤ endOf s c p q
 
 -- before an answer that no test gives, they passed
 row-passed : (s c : List ℕ) (p : Presence) (rule : StoreRule) (q : Request) (t : Translation) → last t ≡ true → inRow s c p rule q ≡ t
@@ -103,7 +103,7 @@ row-passed s c p rule q t l e =
         aligned = h₂ .0;
         permitted = h₃ .0;
         within = within-length (q .offset) (q .length) (h₄ .0);
-        present = leb-true (q .length) (roomOf s c p q) (h₅ .0);
+        present = leb-true (q .offset + q .length) (endOf s c p q) (h₅ .0);
       },
       h₅ .1,
     )
@@ -156,7 +156,7 @@ dataAnswer s c kind a = dataPlace c kind (accountOf a) (offsetOf a) (entryOf s (
 -- an answer in type 3 that no test gives says that they passed, and is that place
 pub data-accepted : (s c p : List ℕ) (kind a n : ℕ) {t : Translation} → translateOf s c p kind a n ≡ t → last t ≡ true → typeOf a ≡ 3
     → DataAccess s a n × (dataAnswer s c kind a ≡ t)
-unfolding concernedValid roomOf startOf placeOf
+unfolding concernedValid endOf startOf sourceOf placeIn placeOf
 data-accepted s c p kind a n e l type =
     let x = accepted s c p kind a n e l in
     let f : rowOf rules 3 (indexOf a) (accounts s) ≡ Is (x .row) = rw type at (x .found) in

@@ -1,4 +1,5 @@
 pub mod Read
+pub mod Tested
 pub mod Accepted
 pub mod Stores
 pub mod Places

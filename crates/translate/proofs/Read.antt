@@ -1,6 +1,7 @@
 -- What is read on the way to a row's columns: an entry's place is a u32, the records and the program's entry are there. Assumes nothing.
 use Prim.Native.Nat.{ℕ, _+_, _<_, _≤_}
 use mathlib.Core.Path.{_≡_}
+use mathlib.Core.Bool.{Bool, true, false}
 use mathlib.Core.List.{List}
 use native.Mathlib.Omega.{arith}
 use lib.ListN.{length, getD}
@@ -10,7 +11,8 @@ use Rattle.layout.specs.Control.{tableAt, liveLimit}
 use Rattle.layout.specs.Snapshot.{entrySize}
 use Rattle.words.proofs.Word.{word-fits}
 use Rattle.snapshot.specs.Header.{headerOf}
-use Rattle.snapshot.specs.Accounts.{entryAt, entryOf}
+use Rattle.choice.specs.Choice.{pick}
+use Rattle.snapshot.specs.Accounts.{entryAt, entryOf, validWithin}
 use Rattle.snapshot.specs.declared.header.Header.{Header}
 use Rattle.snapshot.specs.declared.accounts.Account.{Account}
 use Rattle.snapshot.specs.declared.accounts.AccountEntry.{AccountEntry}
@@ -21,13 +23,24 @@ use Rattle.control.specs.declared.shadow.Region.{Region}
 use Rattle.control.specs.declared.shadow.Region.the-variants.{Stack, Heap}
 use Rattle.control.proofs.Facts.{ControlFacts, control-facts, current-facts}
 use Rattle.segments.specs.declared.rules.Presence.{Presence}
-use Rattle.translate.specs.Translate.{Named, Ready}
+use Rattle.translate.specs.Translate.{noEntry, Named, Ready}
+use Rattle.translate.specs.declared.sought.Sought.{Sought}
 use Rattle.translate.specs.declared.request.Request.{Request}
 
 -- the place that an entry names is a u32
 pub start-fits : (s : List ℕ) (a : Account) {e : AccountEntry} → e ≡ entryOf s a → ((i : ℕ) → getD s i 0 < 256) → e .start < 4294967296
 unfolding entryOf
 start-fits s a entry bytes = rw entry (word-fits 4 s (entryAt a + 8) bytes)
+
+-- an entry that was tested, within the snapshot's length, decides what is sought of its row
+module _ (h : Header) {n : ℕ} {e x : AccountEntry} {v : Bool} (all : h .total ≡ n) (is : e ≡ x) (tested : v ≡ validWithin (h .«data_at») n e) (y : Sought) where
+  -- it is valid
+  pub entry-holds : v ≡ true → pick (validWithin (h .«data_at») (h .total) x) y noEntry ≡ y
+  entry-holds t = rw (all, ← is, ← tested, t)
+
+  -- it is not
+  pub entry-fails : v ≡ false → pick (validWithin (h .«data_at») (h .total) x) y noEntry ≡ noEntry
+  entry-fails t = rw (all, ← is, ← tested, t)
 
 -- what is known of a row's index, by the row's presence
 pub named-as : (s : List ℕ) (q : Request) {p r : Presence} → p ≡ r → Named s p q → Named s r q

@@ -36,7 +36,7 @@ use Rattle.segments.specs.declared.rules.StoreRule.the-variants.{Never, Owner}
 use Rattle.segments.proofs.Requests.{request-length}
 use Rattle.segments.proofs.Table.{storeOf, type-data, data-type, plain-never, permitted-store}
 use Rattle.translate.specs.Fits.{Fits}
-use Rattle.translate.specs.Translate.{program, concernedValid, roomOf, startOf, standsThere, copyPlace, dataPlaceIn, dataPlace, regionPlaceIn, regionPlace, presenceOf, placeOf, translateOf}
+use Rattle.translate.specs.Translate.{program, concernedValid, endOf, startOf, sourceOf, placeIn, copyPlace, dataPlaceIn, dataPlace, regionPlaceIn, regionPlace, presenceOf, placeOf, translateOf}
 use Rattle.translate.specs.declared.place.NewCopy.{NewCopy}
 use Rattle.translate.specs.declared.place.Place.{Place}
 use Rattle.translate.specs.declared.place.Place.the-variants.{InSnapshot, InControl, Zeros, InPool, Take}
@@ -185,7 +185,7 @@ module _ {s c p : List ℕ} {kind a n : ℕ} {t : Translation} (x : Accepted s c
   -- by the row's presence
   answer-at : BuffersFacts s c p → 1 ≤ n → (r : Presence) → x .row .presence ≡ r → RowPassed s c r (x .row .store) (requestOf kind a n)
       → Answer s c p kind a n (placeOf s c r (requestOf kind a n))
-  unfolding concernedValid roomOf startOf standsThere placeOf
+  unfolding concernedValid endOf startOf sourceOf placeIn placeOf
   answer-at b some Transaction i h =
       let f : SnapshotFacts s = snapshot-facts s (b .snapshot) in
       plain-at Transaction refl i refl (omega (arith, h .present))

@@ -34,8 +34,13 @@ use Rattle.segments.specs.declared.rules.Segment.the-variants.{Is, Missing}
 use Rattle.translate.specs.Checks.{firstChecks, rowChecks}
 use Rattle.translate.specs.Place.{refusing}
 use Rattle.translate.specs.declared.request.Request.{Request}
+use Rattle.translate.specs.declared.place.Place.{Place}
 use Rattle.translate.specs.declared.place.Place.the-variants.{InSnapshot, InControl, Zeros, InPool, Take}
 use Rattle.translate.specs.declared.sought.Sought.{Sought}
+use Rattle.translate.specs.declared.sought.Source.{Source}
+use Rattle.translate.specs.declared.sought.Source.the-variants as source
+use Rattle.translate.specs.declared.sought.Buffer.{Buffer}
+use Rattle.translate.specs.declared.sought.Buffer.the-variants as buffer
 use Rattle.translate.specs.declared.place.Translation.{Translation}
 use Rattle.translate.specs.declared.place.Translation.the-variants.{Allowed, Refused}
 
@@ -76,28 +81,28 @@ owned s c Stack q = false
 owned s c Heap q = false
 
 -- block context: "offset/4,096 below B and remainder below 120"
-abbrev pub contextRoom : ℕ → ℕ → ℕ
-contextRoom count offset = pick (ltb (offset / pageSize) count) (contextSize - offset % pageSize) 0
+abbrev pub contextEnd : ℕ → ℕ → ℕ
+contextEnd count offset = pick (ltb (offset / pageSize) count) (pageSize * (offset / pageSize) + contextSize) 0
 
 -- stack: "top n stack pages: offsets from 2^24−4,096n"; heap: "lowest n heap pages"
-abbrev pub regionRoom : Region → ℕ → ℕ → ℕ
-regionRoom region.Stack n offset = pick (leb (offsets - pageSize * n) offset) (offsets - offset) 0
-regionRoom region.Heap n offset = pageSize * n - offset
+abbrev pub regionEnd : Region → ℕ → ℕ → ℕ
+regionEnd region.Stack n offset = pick (leb (offsets - pageSize * n) offset) offsets 0
+regionEnd region.Heap n offset = pageSize * n
 
--- the column "Bytes present": how many bytes are present from the offset on, up to the first that is not
-unfoldable pub roomOf : List ℕ → List ℕ → Presence → Request → ℕ
-roomOf s c Transaction q = transaction s - q .offset
-roomOf s c Shadow q = tableAt - shadowAt - q .offset
-roomOf s c Program q = dataLength (entryOf s (program c)) - q .offset
-roomOf s c Context q = contextRoom (contexts s) (q .offset)
-roomOf s c Metadata q = metadataSize - q .offset
-roomOf s c Data q = dataLength (entryOf s (indexed q)) - q .offset
-roomOf s c Stack q = regionRoom region.Stack (current c .stack) (q .offset)
-roomOf s c Heap q = regionRoom region.Heap (current c .heap) (q .offset)
+-- the column "Bytes present": where the bytes that are present from the offset on end; below the offset none is
+unfoldable pub endOf : List ℕ → List ℕ → Presence → Request → ℕ
+endOf s c Transaction q = transaction s
+endOf s c Shadow q = tableAt - shadowAt
+endOf s c Program q = dataLength (entryOf s (program c))
+endOf s c Context q = contextEnd (contexts s) (q .offset)
+endOf s c Metadata q = metadataSize
+endOf s c Data q = dataLength (entryOf s (indexed q))
+endOf s c Stack q = regionEnd region.Stack (current c .stack) (q .offset)
+endOf s c Heap q = regionEnd region.Heap (current c .heap) (q .offset)
 
 -- the row's tests, in order
 unfoldable pub rowCheck : List ℕ → List ℕ → Presence → StoreRule → Request → Check
-rowCheck s c p rule q = rowChecks (concernedValid s c p q) (permitted (q .kind) p rule (owned s c p q)) q (roomOf s c p q)
+rowCheck s c p rule q = rowChecks (concernedValid s c p q) (permitted (q .kind) p rule (owned s c p q)) q (endOf s c p q)
 
 -- where the first byte stands in its buffer, frames aside: by the column "Bytes present"; a region's bytes stand in frames alone
 unfoldable pub startOf : List ℕ → List ℕ → Presence → Request → ℕ
@@ -110,27 +115,37 @@ startOf s c Data q = entryOf s (indexed q) .start + q .offset
 startOf s c Stack q = 0
 startOf s c Heap q = 0
 
--- whether bytes stand there. 000: "Non-existent accounts: zeroed metadata"
-unfoldable pub standsThere : List ℕ → Presence → Request → Bool
-standsThere s Transaction q = true
-standsThere s Shadow q = true
-standsThere s Program q = true
-standsThere s Context q = true
-standsThere s Metadata q = exists (entryOf s (indexed q))
-standsThere s Data q = true
-standsThere s Stack q = true
-standsThere s Heap q = true
+-- where an account's metadata stands. 000: "Non-existent accounts: zeroed metadata"
+abbrev pub metadataBuffer : AccountEntry → Buffer
+metadataBuffer e = pick (exists e) buffer.Snapshot buffer.Zeros
+
+-- where the bytes of a row stand, by the column "Bytes present"
+unfoldable pub sourceOf : List ℕ → Presence → Request → Source
+sourceOf s Transaction q = source.Plain buffer.Snapshot
+sourceOf s Shadow q = source.Plain buffer.Control
+sourceOf s Program q = source.Plain buffer.Snapshot
+sourceOf s Context q = source.Plain buffer.Snapshot
+sourceOf s Metadata q = source.Plain (metadataBuffer (entryOf s (indexed q)))
+sourceOf s Data q = source.Copy
+sourceOf s Stack q = source.Region region.Stack
+sourceOf s Heap q = source.Region region.Heap
+
+-- where the entry is not valid, nothing more is asked
+unfoldable pub noEntry : Sought
+noEntry = record { entry = false; permitted = false; end = 0; source = source.Plain buffer.Zeros; at = 0 }
 
 -- what a row asks of the buffers, column by column
 unfoldable pub soughtOf : List ℕ → List ℕ → Presence → StoreRule → Request → Sought
 soughtOf s c p rule q =
-    record {
-      entry = concernedValid s c p q;
+    pick (concernedValid s c p q)
+    (record {
+      entry = true;
       permitted = permitted (q .kind) p rule (owned s c p q);
-      room = roomOf s c p q;
-      there = standsThere s p q;
+      end = endOf s c p q;
+      source = sourceOf s p q;
       at = startOf s c p q;
-    }
+    })
+    noEntry
 
 -- ---- the place, once every byte is present
 
@@ -163,20 +178,29 @@ abbrev pub presenceOf : Region → Presence
 presenceOf region.Stack = Stack
 presenceOf region.Heap = Heap
 
--- bytes of the snapshot, or zeros where none stand there
-abbrev pub snapshotPlace : Bool → ℕ → Translation
-snapshotPlace there at = pick there (Allowed (InSnapshot at)) (Allowed Zeros)
+-- the place in a buffer
+abbrev pub bufferPlace : Buffer → ℕ → Place
+bufferPlace buffer.Snapshot at = InSnapshot at
+bufferPlace buffer.Control at = InControl at
+bufferPlace buffer.Zeros at = Zeros
+
+-- where it stands, by its source
+unfoldable pub placeIn : List ℕ → Request → Source → ℕ → Translation
+placeIn c q (source.Plain b) at = Allowed (bufferPlace b at)
+placeIn c q source.Copy at = dataPlace c (q .kind) (indexed q) (q .offset) at
+placeIn c q (source.Region r) at = regionPlace c r (q .kind) (q .offset)
 
 -- where it stands, with the frame that holds its page
 unfoldable pub placeOf : List ℕ → List ℕ → Presence → Request → Translation
-placeOf s c Transaction q = Allowed (InSnapshot (startOf s c Transaction q))
-placeOf s c Shadow q = Allowed (InControl (startOf s c Shadow q))
-placeOf s c Program q = Allowed (InSnapshot (startOf s c Program q))
-placeOf s c Context q = Allowed (InSnapshot (startOf s c Context q))
-placeOf s c Metadata q = snapshotPlace (standsThere s Metadata q) (startOf s c Metadata q)
-placeOf s c Data q = dataPlace c (q .kind) (indexed q) (q .offset) (startOf s c Data q)
-placeOf s c Stack q = regionPlace c region.Stack (q .kind) (q .offset)
-placeOf s c Heap q = regionPlace c region.Heap (q .kind) (q .offset)
+placeOf s c p q = placeIn c q (sourceOf s p q) (startOf s c p q)
+
+-- the tests of what was sought, then this
+abbrev pub tested : Request → Sought → Translation → Translation
+tested q x t = refusing (rowChecks (x .entry) (x .permitted) q (x .end)) t
+
+-- what was sought, answered
+unfoldable pub answerOf : List ℕ → Request → Sought → Translation
+answerOf c q x = tested q x (placeIn c q (x .source) (x .at))
 
 -- the row's tests, then the place
 unfoldable pub inRow : List ℕ → List ℕ → Presence → StoreRule → Request → Translation

@@ -1,7 +1,9 @@
 // The segments of accounts: the program's original data, an account's metadata, an account's data.
 use super::request::Request;
-use super::room::rest;
+use super::sought::Buffer;
 use super::sought::Sought;
+use super::sought::Source;
+use super::sought::no_entry;
 use layout::snapshot::METADATA;
 use segments::rules::Presence;
 use segments::rules::StoreRule;
@@ -17,7 +19,7 @@ ghost use lib.ListN.{length};
 ghost use Rattle.layout.specs.Address.{offsets};
 ghost use Rattle.layout.specs.Snapshot.{entrySize};
 ghost use Rattle.snapshot.specs.Accounts.{entryAt, entryOf};
-ghost use Rattle.translate.specs.Translate.{ownedBy};
+ghost use Rattle.translate.specs.Translate.{ownedBy, metadataBuffer};
 ghost use Rattle.translate.specs.Columns.{ofProgram, ofMetadata, ofData};
 
 // Whether the account may be written and is the program's.
@@ -33,30 +35,46 @@ fn owned_by(e: AccountEntry, program: Account) -> bool
 
 // The original data of the current program's account.
 pub fn of_program(s: &[u8], h: Header, program: Account, permitted: bool, offset: usize) -> Sought
-    requires { ⌜ (entryAt program + entrySize ≤ length (now s)) × (offset < offsets) ⌝ }
+    requires { ⌜ (h .total ≡ length (now s)) × (entryAt program + entrySize ≤ length (now s)) × (offset < offsets) ⌝ }
     ensures { λ r. ⌜ r ≡ ofProgram h (entryOf (now (s .entry)) program) permitted offset ⌝ }
 {
     let e = whole_account_entry(s, program);
+    if e.valid(h.data_at, s.len()) {} else {
+        return no_entry();
+    }
     Sought {
-        entry: e.valid(h.data_at, h.total),
+        entry: true,
         permitted,
-        room: rest(e.data_length(), offset),
-        there: true,
+        end: e.data_length(),
+        source: Source::Plain(Buffer::Snapshot),
         at: e.start + offset,
     }
 }
 
-// An account's metadata: nowhere where the account does not exist.
+// Where an account's metadata stands: nowhere where the account does not exist.
+fn metadata_buffer(e: AccountEntry) -> Buffer
+    ensures { λ r. ⌜ r ≡ metadataBuffer e ⌝ }
+{
+    if e.exists() {
+        return Buffer::Snapshot;
+    }
+    Buffer::Zeros
+}
+
+// An account's metadata.
 pub fn of_metadata(s: &[u8], h: Header, a: Account, permitted: bool, offset: usize) -> Sought
-    requires { ⌜ (entryAt a + entrySize ≤ length (now s)) × (offset < offsets) ⌝ }
+    requires { ⌜ (h .total ≡ length (now s)) × (entryAt a + entrySize ≤ length (now s)) × (offset < offsets) ⌝ }
     ensures { λ r. ⌜ r ≡ ofMetadata h (entryOf (now (s .entry)) a) a permitted offset ⌝ }
 {
     let e = whole_account_entry(s, a);
+    if e.valid(h.data_at, s.len()) {} else {
+        return no_entry();
+    }
     Sought {
-        entry: e.valid(h.data_at, h.total),
+        entry: true,
         permitted,
-        room: rest(METADATA, offset),
-        there: e.exists(),
+        end: METADATA,
+        source: Source::Plain(metadata_buffer(e)),
         at: metadata_at(a) + offset,
     }
 }
@@ -70,15 +88,18 @@ pub fn of_data(
     rule: StoreRule,
     q: Request,
 ) -> Sought
-    requires { ⌜ (entryAt a + entrySize ≤ length (now s)) × (q .offset < offsets) ⌝ }
+    requires { ⌜ (h .total ≡ length (now s)) × (entryAt a + entrySize ≤ length (now s)) × (q .offset < offsets) ⌝ }
     ensures { λ r. ⌜ r ≡ ofData h (entryOf (now (s .entry)) a) program rule q ⌝ }
 {
     let e = whole_account_entry(s, a);
+    if e.valid(h.data_at, s.len()) {} else {
+        return no_entry();
+    }
     Sought {
-        entry: e.valid(h.data_at, h.total),
+        entry: true,
         permitted: permitted(q.kind, Presence::Data, rule, owned_by(e, program)),
-        room: rest(e.data_length(), q.offset),
-        there: true,
+        end: e.data_length(),
+        source: Source::Copy,
         at: e.start + q.offset,
     }
 }

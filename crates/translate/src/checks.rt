@@ -9,6 +9,8 @@ use segments::kinds::request_valid;
 use segments::kinds::within;
 ghost use mathlib.Core.Path.{_≡_};
 ghost use mathlib.Core.Bool.{true};
+ghost use Prim.Native.Nat.{_<_};
+ghost use Rattle.layout.specs.Address.{offsets};
 ghost use Rattle.segments.specs.Kinds.{requestValid};
 ghost use Rattle.translate.specs.Checks.{firstChecks, rowChecks};
 
@@ -29,9 +31,9 @@ pub fn first_checks(buffers: bool, kind: u8, a: Address, n: usize) -> Check
 }
 
 // The tests once the segment is known, up to presence: the account's entry, alignment, permission, the page's end, presence.
-pub fn row_checks(entry: bool, permitted: bool, q: Request, room: usize) -> Check
-    requires { ⌜ requestValid (q .kind) (q .length) ≡ true ⌝ }
-    ensures { λ r. ⌜ r ≡ rowChecks entry permitted q room ⌝ }
+pub fn row_checks(entry: bool, permitted: bool, q: Request, end: usize) -> Check
+    requires { ⌜ (requestValid (q .kind) (q .length) ≡ true) × (q .offset < offsets) ⌝ }
+    ensures { λ r. ⌜ r ≡ rowChecks entry permitted q end ⌝ }
 {
     if entry {} else {
         return Check::Stop(Refusal::Invalid);
@@ -45,7 +47,7 @@ pub fn row_checks(entry: bool, permitted: bool, q: Request, room: usize) -> Chec
     if within(q.offset, q.length) {} else {
         return Check::Stop(Refusal::Crossing);
     }
-    if q.length <= room {} else {
+    if q.offset + q.length <= end {} else {
         return Check::Stop(Refusal::Absent);
     }
     Check::Pass

@@ -2,13 +2,15 @@
 use super::place::NewCopy;
 use super::place::Place;
 use super::place::Translation;
+use control::header::frame_count;
 use control::header::invocation_count;
 use control::shadow::Region;
-use frames::finding::Claim;
 use frames::finding::Found;
-use frames::finding::frame_of;
 use frames::finding::free_frame;
+use frames::finding::lowest_copy;
+use frames::finding::lowest_page;
 use frames::table::frame_entry;
+use pages::Frame;
 use pages::in_frame;
 use pages::page_of;
 use refusal::Refusal;
@@ -38,20 +40,21 @@ fn copy_place(c: &[u8], a: Account, offset: usize) -> Translation
     }
 }
 
-// Where an account's byte stands now: in the page's frame, else where the snapshot has it, or for a store in a frame to be taken.
+// Where an account's byte stands now: in the page's frame, else where the snapshot has it, or for a store in a frame to be taken. The search
+// is asked for a number, which needs no taking apart.
 pub fn data_place(c: &[u8], kind: u8, a: Account, offset: usize, at: usize) -> Translation
     requires { ⌜ (controlValid (now c) ≡ true) × (offset < offsets) ⌝ }
     ensures { λ r. ⌜ r ≡ dataPlace (now (c .entry)) kind a offset at ⌝ }
 {
-    match frame_of(c, Claim::Copy(a, page_of(offset))) {
-        Found::At(f) => Translation::Allowed(Place::InPool(in_frame(f, offset))),
-        Found::Nothing => {
-            if is_store(kind) {
-                return copy_place(c, a, offset);
-            }
-            Translation::Allowed(Place::InSnapshot(at))
-        }
+    let frames = frame_count(c);
+    let i = lowest_copy(c, frames, a, page_of(offset));
+    if i < frames {
+        return Translation::Allowed(Place::InPool(in_frame(Frame(i as u16), offset)));
     }
+    if is_store(kind) {
+        return copy_place(c, a, offset);
+    }
+    Translation::Allowed(Place::InSnapshot(at))
 }
 
 // Where a region's byte stands: in the page's frame, if the frame's tag lets the kind pass.
@@ -60,15 +63,16 @@ pub fn region_place(c: &[u8], r: Region, kind: u8, offset: usize) -> Translation
     ensures { λ t. ⌜ t ≡ regionPlace (now (c .entry)) r kind offset ⌝ }
 {
     let depth = invocation_count(c) - 1;
-    match frame_of(c, Claim::Anonymous(r, page_of(offset))) {
-        Found::At(f) => {
-            if is_store(kind) {
-                if (frame_entry(c, f).tag as usize) < depth {
-                    return Translation::Refused(Refusal::NotPermitted);
-                }
-            }
-            Translation::Allowed(Place::InPool(in_frame(f, offset)))
-        }
-        Found::Nothing => Translation::Refused(Refusal::Invalid),
+    let frames = frame_count(c);
+    let i = lowest_page(c, frames, r, page_of(offset));
+    if frames <= i {
+        return Translation::Refused(Refusal::Invalid);
     }
+    let f = Frame(i as u16);
+    if is_store(kind) {
+        if (frame_entry(c, f).tag as usize) < depth {
+            return Translation::Refused(Refusal::NotPermitted);
+        }
+    }
+    Translation::Allowed(Place::InPool(in_frame(f, offset)))
 }

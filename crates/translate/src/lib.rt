@@ -1,12 +1,12 @@
-// Translation: from an address to a place or a refusal. It changes nothing. Per segment what its row asks is sought; the row's tests are
-// made once; then the place is named.
+// Translation: from an address to a place or a refusal. It changes nothing. Per segment what its row asks is sought, and answered by the row's
+// tests and the place.
 mod accounts;
+mod answer;
 mod checks;
 mod framed;
 pub mod place;
 mod regions;
 pub mod request;
-mod room;
 mod sought;
 pub mod translation;
 mod vm;

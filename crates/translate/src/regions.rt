@@ -1,6 +1,6 @@
 // The segments of anonymous pages: stack and heap.
-use super::room::rest;
 use super::sought::Sought;
+use super::sought::Source;
 use control::shadow::Invocation;
 use control::shadow::Region;
 use layout::address::SEGMENT;
@@ -10,22 +10,22 @@ ghost use Prim.Native.Nat.{_≤_, _<_};
 ghost use Rattle.layout.specs.Address.{offsets};
 ghost use Rattle.layout.specs.Page.{pageLimit};
 ghost use Rattle.control.specs.Control.{pagesOf};
-ghost use Rattle.translate.specs.Translate.{regionRoom};
+ghost use Rattle.translate.specs.Translate.{regionEnd};
 ghost use Rattle.translate.specs.Columns.{ofRegion};
 
-// How many bytes of the region are present from the offset on: the stack's pages are the topmost, the heap's the lowest.
-fn region_room(r: Region, pages: usize, offset: usize) -> usize
+// Where the region's bytes that are present from the offset on end: the stack's pages are the topmost, the heap's the lowest.
+fn region_end(r: Region, pages: usize, offset: usize) -> usize
     requires { ⌜ (pages ≤ pageLimit) × (offset < offsets) ⌝ }
-    ensures { λ n. ⌜ n ≡ regionRoom r pages offset ⌝ }
+    ensures { λ n. ⌜ n ≡ regionEnd r pages offset ⌝ }
 {
     match r {
         Region::Stack => {
             if SEGMENT - PAGE * pages <= offset {
-                return SEGMENT - offset;
+                return SEGMENT;
             }
             0
         }
-        Region::Heap => rest(PAGE * pages, offset),
+        Region::Heap => PAGE * pages,
     }
 }
 
@@ -37,8 +37,8 @@ pub fn of_region(i: Invocation, r: Region, permitted: bool, offset: usize) -> So
     Sought {
         entry: true,
         permitted,
-        room: region_room(r, i.pages(r) as usize, offset),
-        there: true,
+        end: region_end(r, i.pages(r) as usize, offset),
+        source: Source::Region(r),
         at: 0,
     }
 }

@@ -16,17 +16,44 @@ use segments::rules::permitted;
 use snapshot::accounts::Account;
 use snapshot::header::whole_header;
 ghost use mathlib.Core.Path.{_≡_};
-ghost use Rattle.translate.specs.Translate.{Ready, Named, soughtOf};
+ghost use Rattle.translate.specs.Translate.{Ready, Named, noEntry, soughtOf};
 
-// What is sought: whether the entry of the account concerned is valid, whether the row permits the kind of access, how many bytes are
-// present from the offset on, whether they stand anywhere (else they read as zeros), and where the first stands in its buffer, frames
-// aside. Plain numbers: a place made here and handed on would go through memory.
+// A buffer that bytes stand in whatever the frames hold, or none: they read as zeros.
+pub enum Buffer {
+    Snapshot,
+    Control,
+    Zeros,
+}
+
+// Where the bytes of a row stand: in one buffer, in the snapshot unless their page has a copy, or in a region's frames.
+pub enum Source {
+    Plain(Buffer),
+    Copy,
+    Region(Region),
+}
+
+// What is sought: whether the entry of the account concerned is valid, whether the row permits the kind of access, the offset at which the
+// bytes that are present from the access's own on end, where they stand, and where the first does in its buffer, frames aside. Plain
+// numbers: a place made here and handed on would go through memory.
 pub struct Sought {
     pub entry: bool,
     pub permitted: bool,
-    pub room: usize,
-    pub there: bool,
+    pub end: usize,
+    pub source: Source,
     pub at: usize,
+}
+
+// What is sought where the entry is not valid: nothing more is asked.
+pub fn no_entry() -> Sought
+    ensures { λ r. ⌜ r ≡ noEntry ⌝ }
+{
+    Sought {
+        entry: false,
+        permitted: false,
+        end: 0,
+        source: Source::Plain(Buffer::Zeros),
+        at: 0,
+    }
 }
 
 // What the row with this presence and this rule asks. Permission is asked in each arm, where the row is a constant to the compiler.

@@ -1,6 +1,7 @@
 // The segments of type 0 that belong to no account: transaction, shadow stack, block context. Nothing is asked of an entry or an owner.
-use super::room::rest;
+use super::sought::Buffer;
 use super::sought::Sought;
+use super::sought::Source;
 use layout::control::SHADOW_AT;
 use layout::control::TABLE_AT;
 use layout::page::PAGE;
@@ -9,7 +10,7 @@ use snapshot::header::Header;
 ghost use mathlib.Core.Path.{_≡_};
 ghost use Prim.Native.Nat.{_<_};
 ghost use Rattle.layout.specs.Address.{offsets};
-ghost use Rattle.translate.specs.Translate.{contextRoom};
+ghost use Rattle.translate.specs.Translate.{contextEnd};
 ghost use Rattle.translate.specs.Columns.{ofTransaction, ofShadow, ofContext};
 
 // The transaction's bytes.
@@ -20,8 +21,8 @@ pub fn of_transaction(h: Header, permitted: bool, offset: usize) -> Sought
     Sought {
         entry: true,
         permitted,
-        room: rest(h.transaction, offset),
-        there: true,
+        end: h.transaction,
+        source: Source::Plain(Buffer::Snapshot),
         at: h.transaction_at + offset,
     }
 }
@@ -34,18 +35,19 @@ pub fn of_shadow(permitted: bool, offset: usize) -> Sought
     Sought {
         entry: true,
         permitted,
-        room: rest(TABLE_AT - SHADOW_AT, offset),
-        there: true,
+        end: TABLE_AT - SHADOW_AT,
+        source: Source::Plain(Buffer::Control),
         at: SHADOW_AT + offset,
     }
 }
 
-// How many bytes of its block context are present from the offset on: each context has a page of its own.
-fn context_room(contexts: usize, offset: usize) -> usize
-    ensures { λ r. ⌜ r ≡ contextRoom contexts offset ⌝ }
+// Where the block context of an offset ends: each has a page of its own.
+fn context_end(contexts: usize, offset: usize) -> usize
+    requires { ⌜ offset < offsets ⌝ }
+    ensures { λ r. ⌜ r ≡ contextEnd contexts offset ⌝ }
 {
     if offset / PAGE < contexts {
-        return rest(CONTEXT, offset % PAGE);
+        return PAGE * (offset / PAGE) + CONTEXT;
     }
     0
 }
@@ -58,8 +60,8 @@ pub fn of_context(h: Header, permitted: bool, offset: usize) -> Sought
     Sought {
         entry: true,
         permitted,
-        room: context_room(h.contexts, offset),
-        there: true,
+        end: context_end(h.contexts, offset),
+        source: Source::Plain(Buffer::Snapshot),
         at: h.contexts_at + CONTEXT * (offset / PAGE) + offset % PAGE,
     }
 }

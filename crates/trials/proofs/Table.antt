@@ -15,13 +15,13 @@ use Rattle.frames.specs.Table.{frameField, frameEntryBytes, claims, isFree, fou
 use Rattle.segments.specs.Kinds.{requestValid, aligned, within}
 use Rattle.segments.specs.Rules.{rules, rowOf, permitted}
 use Rattle.translate.specs.Checks.{firstChecks, rowChecks}
-use Rattle.translate.specs.Translate.{concernedValid, owned, roomOf, startOf, standsThere, rowCheck, dataPlace, regionPlace, placeOf, inRow, inSegment, translateOf}
+use Rattle.translate.specs.Translate.{concernedValid, owned, endOf, startOf, sourceOf, rowCheck, dataPlace, regionPlace, placeIn, placeOf, inRow, inSegment, translateOf}
 use Rattle.trials.specs.Settings.{entryBytes, snapshotHeader, snapshotWith, controlWith, plain, onePage}
 use Rattle.trials.specs.Trials.{Trial, trials, splitGives, passes, allPass}
 
 -- the trials marked P
 pub table : T (allPass trials)
-unfolding wordAt wordBytes zeros seek need _then_ splitOf headerOf countsValid offsetsValid totalValid snapshotValid entryOf bodyValid validWithin entryValid controlValid invocationOf invocationBytes currentValid buffersValid controlReady frameField frameEntryBytes claims isFree foundIn frameOf freeFrame requestValid aligned within rules rowOf permitted firstChecks rowChecks concernedValid owned roomOf startOf standsThere rowCheck dataPlace regionPlace placeOf inRow inSegment translateOf entryBytes snapshotHeader snapshotWith controlWith plain onePage trials splitGives passes allPass
+unfolding wordAt wordBytes zeros seek need _then_ splitOf headerOf countsValid offsetsValid totalValid snapshotValid entryOf bodyValid validWithin entryValid controlValid invocationOf invocationBytes currentValid buffersValid controlReady frameField frameEntryBytes claims isFree foundIn frameOf freeFrame requestValid aligned within rules rowOf permitted firstChecks rowChecks concernedValid owned endOf startOf sourceOf rowCheck dataPlace regionPlace placeIn placeOf inRow inSegment translateOf entryBytes snapshotHeader snapshotWith controlWith plain onePage trials splitGives passes allPass
 table = tt
 
 -- each row of a table that passes

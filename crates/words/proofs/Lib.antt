@@ -1,3 +1,4 @@
 pub mod Splice
 pub mod Word
 pub mod Run
+pub mod Sizes

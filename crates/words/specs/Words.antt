@@ -1,8 +1,15 @@
 -- Document 01: "All stored numbers are unsigned and little-endian (house rule)." Bytes are a List ℕ, and every definition is total: a
 -- byte past the end reads as 0, and a byte written past the end is dropped. Assumes nothing.
 use Prim.Native.Nat.{ℕ, zero, suc, _+_, _*_, _/_, _%_}
+use mathlib.Core.Bool.{Bool}
 use mathlib.Core.List.{List, [], _∷_}
+use lib.Dec.{eqb}
 use lib.ListN.{getD, set}
+use Rattle.choice.specs.Choice.{either}
+
+-- "Loads, stores and fetches have size 1, 2, 4 or 8"
+abbrev pub isSize : ℕ → Bool
+isSize n = either (eqb n 1) (either (eqb n 2) (either (eqb n 4) (eqb n 8)))
 
 -- the number that the n bytes of s from `at` on spell, the lowest byte first
 unfoldable pub wordAt : ℕ → List ℕ → ℕ → ℕ

@@ -1,28 +1,16 @@
 // Numbers of 1 to 8 bytes, the lowest byte first.
 use crate::runs;
 ghost use mathlib.Core.Path.{_≡_};
-ghost use Prim.Native.Nat.{_+_, _^_, _≤_, _<_};
-ghost use lib.ListN.{length, getD};
-ghost use Rattle.words.specs.Words.{wordAt, wordBytes, splice};
+ghost use mathlib.Core.Bool.{true};
+ghost use Prim.Native.Nat.{_+_, _≤_, _<_};
+ghost use lib.ListN.{length};
+ghost use Rattle.words.specs.Words.{isSize, wordAt, wordBytes, splice};
 
 // A byte as a wider number.
 fn wide(x: u8) -> u64
     ensures { λ r. ⌜ (r ≡ x) × (r < 256) ⌝ }
 {
     x as u64
-}
-
-// The byte i places after `at`, and 0 past the end.
-fn byte_or_zero(s: &[u8], at: usize, i: usize) -> u64
-    ensures { λ r. ⌜ (r ≡ getD (now (s .entry)) (at + i) 0) × (r < 256) ⌝ }
-{
-    if s.len() <= at {
-        return 0;
-    }
-    if s.len() - at <= i {
-        return 0;
-    }
-    wide(s[at + i])
 }
 
 // The u16 at `at`.
@@ -49,23 +37,9 @@ pub fn u64_at(s: &[u8], at: usize) -> u64
     (u32_at(s, at) as u64) + 4294967296 * (u32_at(s, at + 4) as u64)
 }
 
-// The number of n bytes at `at`, byte by byte; a byte past the end of the slice counts 0.
-pub fn padded(s: &[u8], at: usize, n: usize) -> u64
-    requires { ⌜ n ≤ 8 ⌝ }
-    ensures { λ r. ⌜ (r ≡ wordAt n (now (s .entry)) at) × (r < 256 ^ n) ⌝ }
-{
-    let mut v: u64 = 0;
-    let mut i = n;
-    while 0 < i {
-        i -= 1;
-        v = byte_or_zero(s, at, i) + 256 * v;
-    }
-    v
-}
-
-// The number of n bytes at `at`. Each size of an access is one load.
+// The number of n bytes at `at`, n being 1, 2, 4 or 8. Each size is one load.
 pub fn read(s: &[u8], at: usize, n: usize) -> u64
-    requires { ⌜ (n ≤ 8) × (at + n ≤ length (now s)) ⌝ }
+    requires { ⌜ (isSize n ≡ true) × (at + n ≤ length (now s)) ⌝ }
     ensures { λ r. ⌜ r ≡ wordAt n (now (s .entry)) at ⌝ }
 {
     if n == 8 {
@@ -77,10 +51,7 @@ pub fn read(s: &[u8], at: usize, n: usize) -> u64
     if n == 2 {
         return u16_at(s, at) as u64;
     }
-    if n == 1 {
-        return wide(s[at]);
-    }
-    padded(s, at, n)
+    wide(s[at])
 }
 
 // The bytes of v, the lowest first.
@@ -99,27 +70,32 @@ fn bytes_of(v: u64) -> [u8; 8]
     ]
 }
 
-// Writes the n lowest bytes of v at `at`. Each size of an access is one store.
-pub fn write(s: &mut [u8], at: usize, n: usize, v: u64)
+// Writes the n lowest bytes of v at `at`, from an array of its own: one that several sizes share is taken apart where they differ. With a
+// constant n this is one store.
+fn put_low(s: &mut [u8], at: usize, n: usize, v: u64)
     requires { ⌜ (n ≤ 8) × (at + n ≤ length (now s)) ⌝ }
     ensures { λ _. ⌜ now (s .exit) ≡ splice (now (s .entry)) at (wordBytes n v) ⌝ }
 {
     let bytes = bytes_of(v);
+    runs::put(s, at, &bytes, n);
+}
+
+// Writes the n lowest bytes of v at `at`, n being 1, 2, 4 or 8. Each size is one store.
+pub fn write(s: &mut [u8], at: usize, n: usize, v: u64)
+    requires { ⌜ (isSize n ≡ true) × (at + n ≤ length (now s)) ⌝ }
+    ensures { λ _. ⌜ now (s .exit) ≡ splice (now (s .entry)) at (wordBytes n v) ⌝ }
+{
     if n == 8 {
-        runs::put(s, at, &bytes, 8);
+        put_low(s, at, 8, v);
         return;
     }
     if n == 4 {
-        runs::put(s, at, &bytes, 4);
+        put_low(s, at, 4, v);
         return;
     }
     if n == 2 {
-        runs::put(s, at, &bytes, 2);
+        put_low(s, at, 2, v);
         return;
     }
-    if n == 1 {
-        runs::put(s, at, &bytes, 1);
-        return;
-    }
-    runs::put(s, at, &bytes, n);
+    put_low(s, at, 1, v);
 }

@@ -4,7 +4,7 @@ use mathlib.Core.Path.{refl}
 use native.Mathlib.Omega.{arith}
 use borrow.Author.Needs.{needs}
 use Rattle.words.proofs.Word.{length-wordBytes}
-use Rattle.access.proofs.Answers.{refused-store, given-store, place-short, place-writable, place-fits}
+use Rattle.access.proofs.Answers.{refused-store, given-store, place-size, place-writable, place-fits}
 use Rattle.access.proofs.stores.store.Statement.{statement}
 use Rattle.access.proofs.stores.store.Tie as tie
 
@@ -44,7 +44,7 @@ write-requires c κs =
     let m = c .before .before .before .before .before in
     let i = answer-of m .before .before .translate .ensures in
     let e = answer-of m .answer .given .1 in
-    (place-short _ _ _ _ _ _ i e (omega arith), place-fits _ _ _ _ _ _ i e refl (m .make-writable .ensures .0) (m .make-writable .ensures .1 .1))
+    (place-size _ _ _ _ _ _ i e (omega arith), place-fits _ _ _ _ _ _ i e refl (m .make-writable .ensures .0) (m .make-writable .ensures .1 .1))
 
 outcome-of-requires-2 : tie.Need-outcome-of-requires-2
 outcome-of-requires-2 c κs = search needs

@@ -1,8 +1,10 @@
 -- `translate::checks::row_checks` meets its contract: the first test that fails is the answer, those before it having passed.
 -- Assumes nothing.
+use native.Mathlib.Omega.{arith}
 use borrow.Author.Needs.{needs}
 use borrow.Author.Tests.{le-leb, lt-leb}
 use Rattle.refusal.specs.Checks.{need, _then_}
+use Rattle.segments.proofs.Requests.{request-length}
 use Rattle.translate.specs.Checks.{rowChecks}
 use Rattle.translate.proofs.checks.row_checks.Statement.{statement}
 use Rattle.translate.proofs.checks.row_checks.Tie as tie
@@ -31,6 +33,12 @@ returns-4 c =
     let d = c .before .before .before in
     rw (d .before .before .if1 .taken, ← d .before .aligned .ensures, d .if2 .taken, c .before .before .if3 .taken, ← c .before .within .ensures, c .if4 .left)
 
+-- a length is at most a page
+add-length : tie.Need-add-if5
+add-length c =
+    let s = c .before .before .before .before .before .before .before in
+    omega (arith, request-length (s .args .q .kind) (s .args .q .length) (s .pre .0), s .pre .1)
+
 -- they are not all present
 returns-5 : tie.Need-returns-5
 unfolding rowChecks _then_ need
@@ -57,5 +65,6 @@ row-checks-spec =
     returns-3
     (λ c κs. search needs)
     returns-4
+    add-length
     returns-5
     returns-6)

@@ -1,7 +1,7 @@
 -- `translate::sought::sought_of` meets its contract: at each arm the presence is that variant, and its columns are of the header and of the
 -- current invocation that were read. Assumes nothing.
 use Prim.Native.Nat.{ℕ, _+_, _≤_, _<_}
-use mathlib.Core.Path.{_≡_, refl, _∙_}
+use mathlib.Core.Path.{_≡_, refl, ap, _∙_}
 use mathlib.Core.Bool.{true, false}
 use mathlib.Core.List.{List}
 use lib.ListN.{length}
@@ -23,7 +23,7 @@ use Rattle.segments.specs.declared.rules.Presence.{Presence}
 use Rattle.segments.specs.declared.rules.Presence.the-variants.{Transaction, Shadow, Program, Context, Metadata, Data, Stack, Heap}
 use Rattle.segments.specs.declared.rules.StoreRule.{StoreRule}
 use Rattle.translate.specs.Columns.{ofTransaction, ofShadow, ofProgram, ofContext, ofMetadata, ofData, ofRegion}
-use Rattle.translate.specs.Translate.{indexed, concernedValid, owned, roomOf, startOf, standsThere, soughtOf}
+use Rattle.translate.specs.Translate.{indexed, concernedValid, owned, endOf, startOf, sourceOf, soughtOf}
 use Rattle.translate.specs.declared.request.Request.{Request}
 use Rattle.translate.specs.declared.sought.Sought.{Sought}
 use Rattle.translate.proofs.Read.{named-as, header-fits, record-there, program-inside, few-pages}
@@ -44,7 +44,7 @@ columns s h i rule q Heap = ofRegion i region.Heap (permitted (q .kind) Heap rul
 -- are the definition's
 columns-are : (s c : List ℕ) (rule : StoreRule) (q : Request) {h : Header} {i : Invocation} → h ≡ headerOf s → i ≡ current c → (p : Presence)
     → columns s h i rule q p ≡ soughtOf s c p rule q
-unfolding soughtOf concernedValid owned roomOf startOf standsThere entryValid
+unfolding soughtOf concernedValid owned endOf startOf sourceOf entryValid
 columns-are s c rule q header read Transaction = cc
 columns-are s c rule q header read Shadow = refl
 columns-are s c rule q header read Program = cc
@@ -66,9 +66,13 @@ header-read c = c .before .before .whole-header .ensures
 current-read : (c : tie.After-invocation-at) → c .invocation-at .result ≡ current (start-of c .args .c .now)
 current-read c = rw (← c .before .invocation-count .ensures .0) (c .invocation-at .ensures)
 
+-- the snapshot is as long as its header says
+total-there : (c : tie.After-invocation-at) → c .before .before .whole-header .result .total ≡ length (start-of c .args .s .now)
+total-there c = ap (λ (h : Header). h .total) (header-read c) ∙ snapshot-facts _ (start-of c .pre .0 .snapshot) .total
+
 -- its program's entry is there
-program-there : (c : tie.After-invocation-at) → (entryAt (c .invocation-at .result .program) + entrySize ≤ length (start-of c .args .s .now)) × (start-of c .args .q .offset < offsets)
-program-there c = (program-inside _ _ _ (start-of c .pre .0) (current-read c), start-of c .pre .0 .offset)
+program-there : (c : tie.After-invocation-at) → (c .before .before .whole-header .result .total ≡ length (start-of c .args .s .now)) × (entryAt (c .invocation-at .result .program) + entrySize ≤ length (start-of c .args .s .now)) × (start-of c .args .q .offset < offsets)
+program-there c = (total-there c, program-inside _ _ _ (start-of c .pre .0) (current-read c), start-of c .pre .0 .offset)
 
 -- and its regions have few pages
 region-there : (c : tie.After-invocation-at) (r : Region) → (pagesOf (c .invocation-at .result) r ≤ pageLimit) × (start-of c .args .q .offset < offsets)
@@ -76,8 +80,8 @@ region-there c r = (few-pages _ _ _ (start-of c .pre .0) (current-read c) r, sta
 
 -- the entry of an account that the row names is there
 entry-there : (c : tie.After-invocation-at) → known (start-of c .args .s .now) (indexed (start-of c .args .q)) ≡ true
-    → (entryAt (indexed (start-of c .args .q)) + entrySize ≤ length (start-of c .args .s .now)) × (start-of c .args .q .offset < offsets)
-entry-there c k = (entry-inside _ _ (start-of c .pre .0 .snapshot) k, start-of c .pre .0 .offset)
+    → (c .before .before .whole-header .result .total ≡ length (start-of c .args .s .now)) × (entryAt (indexed (start-of c .args .q)) + entrySize ≤ length (start-of c .args .s .now)) × (start-of c .args .q .offset < offsets)
+entry-there c k = (total-there c, entry-inside _ _ (start-of c .pre .0 .snapshot) k, start-of c .pre .0 .offset)
 
 -- the offsets in the header are in range
 header-there : (c : tie.After-invocation-at) → (c .before .before .whole-header .result .«transaction_at» < 4294967296) × (c .before .before .whole-header .result .«contexts_at» < 4294967296)

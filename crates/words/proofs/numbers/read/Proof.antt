@@ -1,4 +1,4 @@
--- `words::numbers::read` meets its contract: at each size the function for it reads the word.
+-- `words::numbers::read` meets its contract: at each size the function for it reads the word, and a size that is none of the others is 1.
 -- Assumes nothing.
 use mathlib.Core.Path.{_≡_}
 use mathlib.Core.List.{List}
@@ -6,6 +6,7 @@ use Prim.Native.Nat.{ℕ}
 use native.Mathlib.Omega.{arith}
 use lib.ListN.{getD}
 use Rattle.words.specs.Words.{wordAt}
+use Rattle.words.proofs.Sizes.{size-one}
 use Rattle.words.proofs.numbers.read.Statement.{statement}
 use Rattle.words.proofs.numbers.read.Tie as tie
 
@@ -39,20 +40,18 @@ cast-result c = omega arith
 returns-3 : tie.Need-returns-3
 returns-3 c = sized _ _ _ _ _ (c .before .if3 .taken) (c .u16-at .ensures)
 
+-- past the tests of the other sizes it is 1
+one-of : (c : tie.Else3) → c .before .before .before .before .args .n ≡ 1
+one-of c = size-one _ (c .before .before .before .before .pre .0) (c .before .before .if1 .left) (c .before .if2 .left) (c .if3 .left)
+
 shared-slice-read-wide : tie.Need-shared-slice-read-wide
-shared-slice-read-wide c = omega arith
+shared-slice-read-wide c = omega (arith, one-of (c .before))
 
 wide-requires : tie.Need-wide-requires
 wide-requires c κs = omega arith
 
 returns-4 : tie.Need-returns-4
-returns-4 c = sized _ _ _ _ _ (c .before .before .if4 .taken) (single _ _ _ (c .wide .ensures .0))
-
-padded-requires : tie.Need-padded-requires
-padded-requires c κs = omega arith
-
-returns-5 : tie.Need-returns-5
-returns-5 c = c .padded .ensures .0
+returns-4 c = sized _ _ _ 1 _ (one-of (c .before .before)) (single _ _ _ (c .wide .ensures .0))
 
 pub read-spec : {M : Type 1} → statement M
 read-spec =
@@ -67,6 +66,4 @@ read-spec =
     returns-3
     shared-slice-read-wide
     wide-requires
-    returns-4
-    padded-requires
-    returns-5)
+    returns-4)

@@ -1,8 +1,8 @@
--- `translate::regions::region_room` meets its contract: at each arm the region is that variant. Assumes nothing.
+-- `translate::regions::region_end` meets its contract: at each arm the region is that variant. Assumes nothing.
 use borrow.Author.Needs.{needs}
 use borrow.Author.Tests.{le-leb, lt-leb}
-use Rattle.translate.proofs.regions.region_room.Statement.{statement}
-use Rattle.translate.proofs.regions.region_room.Tie as tie
+use Rattle.translate.proofs.regions.region_end.Statement.{statement}
+use Rattle.translate.proofs.regions.region_end.Tie as tie
 
 -- the offset is in the stack's pages
 returns : tie.Need-returns
@@ -14,19 +14,17 @@ returns-2 c = rw (c .before .enum-told .given .1, lt-leb _ _ (c .if1 .left))
 
 -- the heap's pages are the lowest
 returns-3 : tie.Need-returns-3
-returns-3 c = rw (c .before .enum-told2 .given .1) (c .rest .ensures)
+returns-3 c = rw (c .enum-told2 .given .1)
 
-pub region-room-spec : {M : Type 1} → statement M
-region-room-spec =
+pub region-end-spec : {M : Type 1} → statement M
+region-end-spec =
     tie.close
     (tie.spec
-    (λ c. search needs)
     (λ c. search needs)
     (λ c. search needs)
     (λ c. search needs)
     returns
     (λ c. search needs)
     (λ c. search needs)
-    (λ c κs. search needs)
     returns-2
     returns-3)
