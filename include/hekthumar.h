@@ -6,8 +6,9 @@
  *   control   the VM's control block: header, 17 shadow records, the frame table; length 4,504 + 8 F
  *   pool      F frames of 4,096 bytes, F being 0 to 1,024
  *
- * A buffer is a pointer and a length; a null pointer with length 0 is an empty buffer. The buffers of one call do not overlap. Every
- * function accepts every input and returns. Each answers a number:
+ * A buffer is a pointer and a length; a null pointer with length 0 is an empty buffer. A buffer that a call writes overlaps no other buffer of
+ * the call. Every function accepts every input and returns, and needs at most some 8.4 KB of stack. docs/FORMATS.md has every byte format. Each
+ * function answers a number:
  *
  *    0  done                                    7  not permitted
  *    1  a buffer, header, entry is not valid    8  too few free frames
@@ -53,6 +54,61 @@ extern "C" {
 #define HEKTHUMAR_VIEW_SNAPSHOT 1
 #define HEKTHUMAR_VIEW_POOL 2
 
+/* Segments: the type of an address, and in type 0 the index. In types 2 and 3 the index is an account, in 5 and 7 it is 0. */
+#define HEKTHUMAR_TYPE_VM 0
+#define HEKTHUMAR_TYPE_METADATA 2
+#define HEKTHUMAR_TYPE_DATA 3
+#define HEKTHUMAR_TYPE_STACK 5
+#define HEKTHUMAR_TYPE_HEAP 7
+#define HEKTHUMAR_INDEX_TRANSACTION 1
+#define HEKTHUMAR_INDEX_SHADOW 2
+#define HEKTHUMAR_INDEX_PROGRAM 3
+#define HEKTHUMAR_INDEX_CONTEXTS 4
+
+/* The address of fields that are in range, as a constant; hekthumar_join tests the offset. */
+#define HEKTHUMAR_ADDRESS(type, index, offset) (((uint64_t)(type) << 40) | ((uint64_t)(index) << 24) | (uint64_t)(offset))
+
+/* The layout, in bytes and counts; docs/FORMATS.md says what lies where. */
+#define HEKTHUMAR_PAGE 4096        /* a page, a frame of the pool, the longest span */
+#define HEKTHUMAR_SEGMENT 16777216 /* 2^24: offsets lie below this */
+#define HEKTHUMAR_MAX_REGION (HEKTHUMAR_SEGMENT / HEKTHUMAR_PAGE) /* pages of the stack, and of the heap */
+
+/* Snapshot. */
+#define HEKTHUMAR_MAX_ACCOUNTS 64
+#define HEKTHUMAR_MAX_CONTEXTS 512
+#define HEKTHUMAR_MAX_TRANSACTION 65536
+#define HEKTHUMAR_MAX_ACCOUNT_DATA HEKTHUMAR_SEGMENT
+#define HEKTHUMAR_MAX_SNAPSHOT 2147483648u
+#define HEKTHUMAR_SNAPSHOT_HEADER 32 /* the account entries start here */
+#define HEKTHUMAR_METADATA_AT 16     /* in an account entry */
+#define HEKTHUMAR_METADATA 64
+#define HEKTHUMAR_ACCOUNT_ENTRY (HEKTHUMAR_METADATA_AT + HEKTHUMAR_METADATA)
+#define HEKTHUMAR_EXISTS 1 /* flags of an account entry */
+#define HEKTHUMAR_WRITABLE 2
+#define HEKTHUMAR_CONTEXT 120 /* a block context as stored; in its segment each has a page */
+#define HEKTHUMAR_CONTEXTS_AT(accounts) (HEKTHUMAR_SNAPSHOT_HEADER + (size_t)(accounts) * HEKTHUMAR_ACCOUNT_ENTRY)
+#define HEKTHUMAR_TRANSACTION_AT(accounts, contexts) (HEKTHUMAR_CONTEXTS_AT(accounts) + (size_t)(contexts) * HEKTHUMAR_CONTEXT)
+#define HEKTHUMAR_DATA_AT(accounts, contexts, transaction) (HEKTHUMAR_TRANSACTION_AT(accounts, contexts) + (size_t)(transaction))
+
+/* Control block and pool. */
+#define HEKTHUMAR_MAX_FRAMES 1024
+#define HEKTHUMAR_MAX_INVOCATIONS 16
+#define HEKTHUMAR_SHADOW_AT 16   /* the header's length; record 0 starts here, and is no invocation's */
+#define HEKTHUMAR_REGISTERS_AT 8 /* in a shadow record */
+#define HEKTHUMAR_REGISTERS 256
+#define HEKTHUMAR_SHADOW (HEKTHUMAR_REGISTERS_AT + HEKTHUMAR_REGISTERS)
+#define HEKTHUMAR_TABLE_AT (HEKTHUMAR_SHADOW_AT + (HEKTHUMAR_MAX_INVOCATIONS + 1) * HEKTHUMAR_SHADOW)
+#define HEKTHUMAR_FRAME_ENTRY 8
+#define HEKTHUMAR_FREE 0 /* use byte of a frame entry: this, */
+#define HEKTHUMAR_COPY 1 /* this, HEKTHUMAR_STACK or HEKTHUMAR_HEAP */
+#define HEKTHUMAR_CONTROL_LENGTH(frames) (HEKTHUMAR_TABLE_AT + (size_t)(frames) * HEKTHUMAR_FRAME_ENTRY)
+#define HEKTHUMAR_POOL_LENGTH(frames) ((size_t)(frames) * HEKTHUMAR_PAGE)
+
+/* Change list. With the frame count for the pages, the length is room for any list. */
+#define HEKTHUMAR_LIST_HEADER 16
+#define HEKTHUMAR_LIST_ENTRY 8
+#define HEKTHUMAR_LIST_LENGTH(pages) (HEKTHUMAR_LIST_HEADER + (size_t)(pages) * (HEKTHUMAR_LIST_ENTRY + HEKTHUMAR_PAGE))
+
 typedef struct {
     uint64_t address;
     uint8_t number;
@@ -94,7 +150,7 @@ hekthumar_address hekthumar_join(uint8_t type, uint16_t index, uint32_t offset);
 /* The fields of an address below 2^48; else 3 and zero fields. */
 hekthumar_fields hekthumar_split(uint64_t address);
 
-/* Begins a program: writes the whole control block, leaves the pool. Refusals: 1, 4. */
+/* Begins a program: writes the whole control block, leaves the pool. Refusals: 1 for the buffers, then 4, 1, 4 for the program's account. */
 uint8_t hekthumar_begin(const uint8_t *snapshot, size_t snapshot_len, uint8_t *control, size_t control_len, const uint8_t *pool,
                         size_t pool_len, uint16_t program);
 

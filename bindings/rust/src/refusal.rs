@@ -36,7 +36,7 @@ pub enum Refusal {
     RegionTooLarge = 10,
     /// The change list is longer than the buffer for it.
     OutputTooShort = 11,
-    /// The change list is malformed or belongs to data of another length.
+    /// The change list is malformed, or a page of it has another count of live bytes than the data gives that page.
     BadChangeList = 12,
 }
 

@@ -23,7 +23,7 @@ use Rattle.translate.proofs.Accepted.{accepted}
 use Rattle.translate.proofs.Stores.{StorePlace, into-copy, into-new, into-region, store-place}
 use Rattle.translate.proofs.Places.{translate-fits}
 use Rattle.access.specs.Loads.{valueAt, answered, spanAt, filled}
-use Rattle.access.specs.Stores.{Writable, placeInPool, preparedControl, preparedPool, storeOutcome, storeControl, storePool}
+use Rattle.access.specs.Stores.{Writable, placeInPool, preparedControl, preparedPool, storedAt, storeOutcome, storeControl, storePool}
 
 -- ---- the place of a store
 
@@ -47,6 +47,11 @@ length-prepared s p (InControl at) = refl
 length-prepared s p Zeros = refl
 length-prepared s p (InPool at) = refl
 length-prepared s p (Take t) = length-splice p _ _
+
+-- bytes put in where a writable page's place is, once it has its frame, are stored at that place
+put-at : (s c p bytes : List ℕ) (q : Place) → Writable s c p q → splice (preparedPool s p q) (placeInPool q) bytes ≡ storedAt s p bytes q
+put-at s c p bytes (InPool at) w = refl
+put-at s c p bytes (Take t) w = refl
 
 -- ---- an answer t, of which an access makes the outcome o
 
@@ -79,11 +84,11 @@ module _ (s c p : List ℕ) (kind a n : ℕ) {t : Translation} {o : Outcome} (is
     given-span out h = rw (h, made, ← is, e) (refl, refl)
 
     -- what a store leaves
-    pub given-store : (bytes : List ℕ) → length bytes ≡ n → {at : ℕ} {c′ p′ p″ : List ℕ} → at ≡ placeInPool q → c′ ≡ preparedControl c q
+    pub given-store : (bytes : List ℕ) → length bytes ≡ n → Writable s c p q → {at : ℕ} {c′ p′ p″ : List ℕ} → at ≡ placeInPool q → c′ ≡ preparedControl c q
         → p′ ≡ preparedPool s p q → p″ ≡ splice p′ at bytes
         → (o ≡ storeOutcome s c p kind a n) × ((c′ ≡ storeControl s c p kind a n) × (p″ ≡ storePool s c p kind a bytes))
     unfolding storeOutcome storeControl storePool
-    given-store bytes l h₁ h₂ h₃ h₄ = rw (h₄, h₃, h₂, h₁, l, made, ← is, e) (refl, (refl, refl))
+    given-store bytes l w h₁ h₂ h₃ h₄ = rw (h₄, h₃, h₂, h₁, l, made, ← is, e) (refl, (refl, put-at s c p bytes q w))
 
 -- ---- an answer t that is a place q
 

@@ -66,9 +66,17 @@ abbrev pub controlAfter : List ℕ → Translation → List ℕ
 controlAfter c (Allowed q) = preparedControl c q
 controlAfter c (Refused r) = c
 
--- the pool after an answer: "then stores"
+-- the pool with the bytes at a place: "then stores". A store has no other place than these two; at any other the pool stays
+abbrev pub storedAt : List ℕ → List ℕ → List ℕ → Place → List ℕ
+storedAt s p bytes (InSnapshot at) = p
+storedAt s p bytes (InControl at) = p
+storedAt s p bytes Zeros = p
+storedAt s p bytes (InPool at) = splice p at bytes
+storedAt s p bytes (Take t) = splice (takenPool s p t) (t .at) bytes
+
+-- the pool after an answer
 abbrev pub poolAfter : List ℕ → List ℕ → List ℕ → Translation → List ℕ
-poolAfter s p bytes (Allowed q) = splice (preparedPool s p q) (placeInPool q) bytes
+poolAfter s p bytes (Allowed q) = storedAt s p bytes q
 poolAfter s p bytes (Refused r) = p
 
 -- what a store answers, of either kind

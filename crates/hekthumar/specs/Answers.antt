@@ -1,5 +1,10 @@
 -- The answers of the C interface: for each case of an answer its number and its values. A field that the case does not name is 0.
 -- Assumes nothing.
+use Prim.Native.Nat.{ℕ}
+use mathlib.Core.List.{List, []}
+use lib.Dec.{eqb}
+use Rattle.words.specs.Words.{bytesAt}
+use Rattle.choice.specs.Choice.{pick}
 use Rattle.refusal.specs.Numbers.{numberOf, done}
 use Rattle.address.specs.declared.Joined.{Joined}
 use Rattle.address.specs.declared.Fields.{Fields}
@@ -10,6 +15,7 @@ use Rattle.translate.specs.declared.place.Translation.the-variants.{Allowed, Re
 use Rattle.access.specs.declared.loads.Value.{Value}
 use Rattle.view.specs.declared.View.{View}
 use Rattle.view.specs.declared.View.the-variants as view
+use Rattle.hekthumar.specs.Steps.{Step}
 use Rattle.hekthumar.specs.declared.addresses.AddressAnswer.{AddressAnswer}
 use Rattle.hekthumar.specs.declared.addresses.FieldsAnswer.{FieldsAnswer}
 use Rattle.hekthumar.specs.declared.accesses.PlaceAnswer.{PlaceAnswer}
@@ -27,6 +33,10 @@ fieldsAnswer f = record { offset = f .offset; index = f .index; segment = f .«s
 -- a value and its number
 abbrev pub valueAnswer : Value → ValueAnswer
 valueAnswer v = record { value = v .value; number = v .outcome .number }
+
+-- the value and the number that a step gives
+abbrev pub stepValue : Step → ValueAnswer
+stepValue x = record { value = x .answer .value; number = x .answer .number }
 
 -- a place: 1 in the snapshot, 2 in the control block, 3 zeros, 4 in the pool, 5 a frame that would be taken for a copy
 abbrev pub placeOf : Place → PlaceAnswer
@@ -46,3 +56,7 @@ abbrev pub viewAnswer : View → ViewAnswer
 viewAnswer (view.InSnapshot at n) = record { start = at; length = n; holder = 1; number = done }
 viewAnswer (view.InPool at n) = record { start = at; length = n; holder = 2; number = done }
 viewAnswer (view.Refused r) = record { start = 0; length = 0; holder = 0; number = numberOf r }
+
+-- the bytes of the part that a view's answer names
+abbrev pub viewed : List ℕ → List ℕ → ViewAnswer → List ℕ
+viewed s p v = pick (eqb (v .holder) 1) (bytesAt (v .length) s (v .start)) (pick (eqb (v .holder) 2) (bytesAt (v .length) p (v .start)) [])

@@ -12,13 +12,9 @@ use translate::place::Place;
 use translate::place::Translation;
 use translate::translation::translate;
 ghost use mathlib.Core.Path.{_≡_};
-ghost use lib.ListN.{length};
-ghost use Rattle.words.specs.Words.{wordBytes};
-ghost use Rattle.segments.specs.Kinds.{kindStore, kindStoreSpan};
 ghost use Rattle.translate.specs.Translate.{translateOf};
-ghost use Rattle.access.specs.Loads.{loadOf, fetchOf, loadSpanOutcome, loadSpanOut};
-ghost use Rattle.access.specs.Stores.{storeOutcome, storeControl, storePool};
-ghost use Rattle.hekthumar.specs.Answers.{placeOf, placeAnswer, valueAnswer};
+ghost use Rattle.hekthumar.specs.Steps.{translation, load, fetch, store, load-span, store-span, lent};
+ghost use Rattle.hekthumar.specs.Answers.{placeOf, placeAnswer, valueAnswer, stepValue};
 
 // Translation's answer: a field that the case does not name is 0.
 #[repr(C)]
@@ -88,6 +84,9 @@ pub extern "C" fn hekthumar_translate(
     length: usize,
 ) -> PlaceAnswer
     ensures { λ r. ⌜ r ≡ placeAnswer (translateOf (now (snapshot .entry)) (now (control .entry)) (now (pool .entry)) kind address length) ⌝ }
+    ensures { λ r. ⌜ r .number ≡ lent (now (snapshot .entry)) (now (control .entry)) (now (pool .entry)) (translation kind address length) .answer .number ⌝ }
+    ensures { λ _. ⌜ now (control .entry) ≡ lent (now (snapshot .entry)) (now (control .entry)) (now (pool .entry)) (translation kind address length) .after .control ⌝ }
+    ensures { λ _. ⌜ now (pool .entry) ≡ lent (now (snapshot .entry)) (now (control .entry)) (now (pool .entry)) (translation kind address length) .after .pool ⌝ }
 {
     let t = translate(snapshot, control, pool, kind, Address(address), length);
     match t {
@@ -123,7 +122,9 @@ pub extern "C" fn hekthumar_load(
     address: u64,
     size: usize,
 ) -> ValueAnswer
-    ensures { λ r. ⌜ r ≡ valueAnswer (loadOf (now (snapshot .entry)) (now (control .entry)) (now (pool .entry)) address size) ⌝ }
+    ensures { λ r. ⌜ r ≡ stepValue (lent (now (snapshot .entry)) (now (control .entry)) (now (pool .entry)) (load address size)) ⌝ }
+    ensures { λ _. ⌜ now (control .entry) ≡ lent (now (snapshot .entry)) (now (control .entry)) (now (pool .entry)) (load address size) .after .control ⌝ }
+    ensures { λ _. ⌜ now (pool .entry) ≡ lent (now (snapshot .entry)) (now (control .entry)) (now (pool .entry)) (load address size) .after .pool ⌝ }
 {
     value_of(load(snapshot, control, pool, Address(address), size))
 }
@@ -137,7 +138,9 @@ pub extern "C" fn hekthumar_fetch(
     address: u64,
     size: usize,
 ) -> ValueAnswer
-    ensures { λ r. ⌜ r ≡ valueAnswer (fetchOf (now (snapshot .entry)) (now (control .entry)) (now (pool .entry)) address size) ⌝ }
+    ensures { λ r. ⌜ r ≡ stepValue (lent (now (snapshot .entry)) (now (control .entry)) (now (pool .entry)) (fetch address size)) ⌝ }
+    ensures { λ _. ⌜ now (control .entry) ≡ lent (now (snapshot .entry)) (now (control .entry)) (now (pool .entry)) (fetch address size) .after .control ⌝ }
+    ensures { λ _. ⌜ now (pool .entry) ≡ lent (now (snapshot .entry)) (now (control .entry)) (now (pool .entry)) (fetch address size) .after .pool ⌝ }
 {
     value_of(fetch(snapshot, control, pool, Address(address), size))
 }
@@ -152,9 +155,9 @@ pub extern "C" fn hekthumar_store(
     size: usize,
     value: u64,
 ) -> u8
-    ensures { λ r. ⌜ r ≡ storeOutcome (now (snapshot .entry)) (now (control .entry)) (now (pool .entry)) kindStore address size .number ⌝ }
-    ensures { λ _. ⌜ now (control .exit) ≡ storeControl (now (snapshot .entry)) (now (control .entry)) (now (pool .entry)) kindStore address size ⌝ }
-    ensures { λ _. ⌜ now (pool .exit) ≡ storePool (now (snapshot .entry)) (now (control .entry)) (now (pool .entry)) kindStore address (wordBytes size value) ⌝ }
+    ensures { λ r. ⌜ r ≡ lent (now (snapshot .entry)) (now (control .entry)) (now (pool .entry)) (store address size value) .answer .number ⌝ }
+    ensures { λ _. ⌜ now (control .exit) ≡ lent (now (snapshot .entry)) (now (control .entry)) (now (pool .entry)) (store address size value) .after .control ⌝ }
+    ensures { λ _. ⌜ now (pool .exit) ≡ lent (now (snapshot .entry)) (now (control .entry)) (now (pool .entry)) (store address size value) .after .pool ⌝ }
 {
     let o = store(snapshot, control, pool, Address(address), size, value);
     o.number
@@ -169,8 +172,10 @@ pub extern "C" fn hekthumar_load_span(
     address: u64,
     out: &mut [u8],
 ) -> u8
-    ensures { λ r. ⌜ r ≡ loadSpanOutcome (now (snapshot .entry)) (now (control .entry)) (now (pool .entry)) address (now (out .entry)) .number ⌝ }
-    ensures { λ _. ⌜ now (out .exit) ≡ loadSpanOut (now (snapshot .entry)) (now (control .entry)) (now (pool .entry)) address (now (out .entry)) ⌝ }
+    ensures { λ r. ⌜ r ≡ lent (now (snapshot .entry)) (now (control .entry)) (now (pool .entry)) (load-span address (now (out .entry))) .answer .number ⌝ }
+    ensures { λ _. ⌜ now (out .exit) ≡ lent (now (snapshot .entry)) (now (control .entry)) (now (pool .entry)) (load-span address (now (out .entry))) .answer .bytes ⌝ }
+    ensures { λ _. ⌜ now (control .entry) ≡ lent (now (snapshot .entry)) (now (control .entry)) (now (pool .entry)) (load-span address (now (out .entry))) .after .control ⌝ }
+    ensures { λ _. ⌜ now (pool .entry) ≡ lent (now (snapshot .entry)) (now (control .entry)) (now (pool .entry)) (load-span address (now (out .entry))) .after .pool ⌝ }
 {
     let o = load_span(snapshot, control, pool, Address(address), out);
     o.number
@@ -185,9 +190,9 @@ pub extern "C" fn hekthumar_store_span(
     address: u64,
     bytes: &[u8],
 ) -> u8
-    ensures { λ r. ⌜ r ≡ storeOutcome (now (snapshot .entry)) (now (control .entry)) (now (pool .entry)) kindStoreSpan address (length (now (bytes .entry))) .number ⌝ }
-    ensures { λ _. ⌜ now (control .exit) ≡ storeControl (now (snapshot .entry)) (now (control .entry)) (now (pool .entry)) kindStoreSpan address (length (now (bytes .entry))) ⌝ }
-    ensures { λ _. ⌜ now (pool .exit) ≡ storePool (now (snapshot .entry)) (now (control .entry)) (now (pool .entry)) kindStoreSpan address (now (bytes .entry)) ⌝ }
+    ensures { λ r. ⌜ r ≡ lent (now (snapshot .entry)) (now (control .entry)) (now (pool .entry)) (store-span address (now (bytes .entry))) .answer .number ⌝ }
+    ensures { λ _. ⌜ now (control .exit) ≡ lent (now (snapshot .entry)) (now (control .entry)) (now (pool .entry)) (store-span address (now (bytes .entry))) .after .control ⌝ }
+    ensures { λ _. ⌜ now (pool .exit) ≡ lent (now (snapshot .entry)) (now (control .entry)) (now (pool .entry)) (store-span address (now (bytes .entry))) .after .pool ⌝ }
 {
     let o = store_span(snapshot, control, pool, Address(address), bytes);
     o.number

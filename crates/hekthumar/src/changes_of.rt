@@ -8,10 +8,10 @@ use snapshot::accounts::Account;
 use view::View;
 use view::find_view;
 ghost use mathlib.Core.Path.{_≡_};
-ghost use Rattle.changes.specs.List.{changeListNumber, changeListOut};
 ghost use Rattle.apply.specs.Apply.{applyNumber, applyData};
 ghost use Rattle.view.specs.View.{viewOf};
-ghost use Rattle.hekthumar.specs.Answers.{viewAnswer};
+ghost use Rattle.hekthumar.specs.Steps.{change-list, page-view, lent};
+ghost use Rattle.hekthumar.specs.Answers.{viewAnswer, viewed};
 
 // The part of a buffer that holds a page's live bytes: holder 0 none, 1 snapshot, 2 pool.
 #[repr(C)]
@@ -30,8 +30,10 @@ pub extern "C" fn hekthumar_change_list(
     pool: &[u8],
     out: &mut [u8],
 ) -> u8
-    ensures { λ r. ⌜ r ≡ changeListNumber (now (snapshot .entry)) (now (control .entry)) (now (pool .entry)) (now (out .entry)) ⌝ }
-    ensures { λ _. ⌜ now (out .exit) ≡ changeListOut (now (snapshot .entry)) (now (control .entry)) (now (pool .entry)) (now (out .entry)) ⌝ }
+    ensures { λ r. ⌜ r ≡ lent (now (snapshot .entry)) (now (control .entry)) (now (pool .entry)) (change-list (now (out .entry))) .answer .number ⌝ }
+    ensures { λ _. ⌜ now (out .exit) ≡ lent (now (snapshot .entry)) (now (control .entry)) (now (pool .entry)) (change-list (now (out .entry))) .answer .bytes ⌝ }
+    ensures { λ _. ⌜ now (control .entry) ≡ lent (now (snapshot .entry)) (now (control .entry)) (now (pool .entry)) (change-list (now (out .entry))) .after .control ⌝ }
+    ensures { λ _. ⌜ now (pool .entry) ≡ lent (now (snapshot .entry)) (now (control .entry)) (now (pool .entry)) (change-list (now (out .entry))) .after .pool ⌝ }
 {
     change_list(snapshot, control, pool, out)
 }
@@ -55,6 +57,10 @@ pub extern "C" fn hekthumar_page_view(
     page: u16,
 ) -> ViewAnswer
     ensures { λ r. ⌜ r ≡ viewAnswer (viewOf (now (snapshot .entry)) (now (control .entry)) (now (pool .entry)) (record { 0 = account }) (record { 0 = page })) ⌝ }
+    ensures { λ r. ⌜ r .number ≡ lent (now (snapshot .entry)) (now (control .entry)) (now (pool .entry)) (page-view (record { 0 = account }) (record { 0 = page })) .answer .number ⌝ }
+    ensures { λ r. ⌜ viewed (now (snapshot .entry)) (now (pool .entry)) r ≡ lent (now (snapshot .entry)) (now (control .entry)) (now (pool .entry)) (page-view (record { 0 = account }) (record { 0 = page })) .answer .bytes ⌝ }
+    ensures { λ _. ⌜ now (control .entry) ≡ lent (now (snapshot .entry)) (now (control .entry)) (now (pool .entry)) (page-view (record { 0 = account }) (record { 0 = page })) .after .control ⌝ }
+    ensures { λ _. ⌜ now (pool .entry) ≡ lent (now (snapshot .entry)) (now (control .entry)) (now (pool .entry)) (page-view (record { 0 = account }) (record { 0 = page })) .after .pool ⌝ }
 {
     match find_view(snapshot, control, pool, Account(account), Page(page)) {
         View::InSnapshot(at, n) => ViewAnswer {

@@ -6,8 +6,7 @@ use invoke::calls::return_from;
 use regions::resize::resize;
 use snapshot::accounts::Account;
 ghost use mathlib.Core.Path.{_≡_};
-ghost use Rattle.invoke.specs.Invoke.{beginNumber, beginControl, callNumber, callControl, returnNumber, returnControl, returnOut};
-ghost use Rattle.regions.specs.Resize.{resizeOf};
+ghost use Rattle.hekthumar.specs.Steps.{begin, call, return, resize, lent};
 
 // Begins a program: the whole control block is written.
 #[no_mangle]
@@ -17,8 +16,9 @@ pub extern "C" fn hekthumar_begin(
     pool: &[u8],
     program: u16,
 ) -> u8
-    ensures { λ r. ⌜ r ≡ beginNumber (now (snapshot .entry)) (now (control .entry)) (now (pool .entry)) (record { program = record { 0 = program } }) ⌝ }
-    ensures { λ _. ⌜ now (control .exit) ≡ beginControl (now (snapshot .entry)) (now (control .entry)) (now (pool .entry)) (record { program = record { 0 = program } }) ⌝ }
+    ensures { λ r. ⌜ r ≡ lent (now (snapshot .entry)) (now (control .entry)) (now (pool .entry)) (begin (record { program = record { 0 = program } })) .answer .number ⌝ }
+    ensures { λ _. ⌜ now (control .exit) ≡ lent (now (snapshot .entry)) (now (control .entry)) (now (pool .entry)) (begin (record { program = record { 0 = program } })) .after .control ⌝ }
+    ensures { λ _. ⌜ now (pool .entry) ≡ lent (now (snapshot .entry)) (now (control .entry)) (now (pool .entry)) (begin (record { program = record { 0 = program } })) .after .pool ⌝ }
 {
     let start = Start {
         program: Account(program),
@@ -35,8 +35,9 @@ pub extern "C" fn hekthumar_call(
     program: u16,
     registers: &[u8],
 ) -> u8
-    ensures { λ r. ⌜ r ≡ callNumber (now (snapshot .entry)) (now (control .entry)) (now (pool .entry)) (record { 0 = program }) (now (registers .entry)) ⌝ }
-    ensures { λ _. ⌜ now (control .exit) ≡ callControl (now (snapshot .entry)) (now (control .entry)) (now (pool .entry)) (record { 0 = program }) (now (registers .entry)) ⌝ }
+    ensures { λ r. ⌜ r ≡ lent (now (snapshot .entry)) (now (control .entry)) (now (pool .entry)) (call (record { 0 = program }) (now (registers .entry))) .answer .number ⌝ }
+    ensures { λ _. ⌜ now (control .exit) ≡ lent (now (snapshot .entry)) (now (control .entry)) (now (pool .entry)) (call (record { 0 = program }) (now (registers .entry))) .after .control ⌝ }
+    ensures { λ _. ⌜ now (pool .entry) ≡ lent (now (snapshot .entry)) (now (control .entry)) (now (pool .entry)) (call (record { 0 = program }) (now (registers .entry))) .after .pool ⌝ }
 {
     call(snapshot, control, pool, Account(program), registers)
 }
@@ -49,9 +50,10 @@ pub extern "C" fn hekthumar_return(
     pool: &[u8],
     registers: &mut [u8],
 ) -> u8
-    ensures { λ r. ⌜ r ≡ returnNumber (now (snapshot .entry)) (now (control .entry)) (now (pool .entry)) (now (registers .entry)) ⌝ }
-    ensures { λ _. ⌜ now (control .exit) ≡ returnControl (now (snapshot .entry)) (now (control .entry)) (now (pool .entry)) (now (registers .entry)) ⌝ }
-    ensures { λ _. ⌜ now (registers .exit) ≡ returnOut (now (snapshot .entry)) (now (control .entry)) (now (pool .entry)) (now (registers .entry)) ⌝ }
+    ensures { λ r. ⌜ r ≡ lent (now (snapshot .entry)) (now (control .entry)) (now (pool .entry)) (return (now (registers .entry))) .answer .number ⌝ }
+    ensures { λ _. ⌜ now (registers .exit) ≡ lent (now (snapshot .entry)) (now (control .entry)) (now (pool .entry)) (return (now (registers .entry))) .answer .bytes ⌝ }
+    ensures { λ _. ⌜ now (control .exit) ≡ lent (now (snapshot .entry)) (now (control .entry)) (now (pool .entry)) (return (now (registers .entry))) .after .control ⌝ }
+    ensures { λ _. ⌜ now (pool .entry) ≡ lent (now (snapshot .entry)) (now (control .entry)) (now (pool .entry)) (return (now (registers .entry))) .after .pool ⌝ }
 {
     return_from(snapshot, control, pool, registers)
 }
@@ -65,9 +67,9 @@ pub extern "C" fn hekthumar_resize(
     region: u8,
     pages: usize,
 ) -> u8
-    ensures { λ r. ⌜ r ≡ resizeOf (now (snapshot .entry)) (now (control .entry)) (now (pool .entry)) region pages .number ⌝ }
-    ensures { λ _. ⌜ now (control .exit) ≡ resizeOf (now (snapshot .entry)) (now (control .entry)) (now (pool .entry)) region pages .after .control ⌝ }
-    ensures { λ _. ⌜ now (pool .exit) ≡ resizeOf (now (snapshot .entry)) (now (control .entry)) (now (pool .entry)) region pages .after .pool ⌝ }
+    ensures { λ r. ⌜ r ≡ lent (now (snapshot .entry)) (now (control .entry)) (now (pool .entry)) (resize region pages) .answer .number ⌝ }
+    ensures { λ _. ⌜ now (control .exit) ≡ lent (now (snapshot .entry)) (now (control .entry)) (now (pool .entry)) (resize region pages) .after .control ⌝ }
+    ensures { λ _. ⌜ now (pool .exit) ≡ lent (now (snapshot .entry)) (now (control .entry)) (now (pool .entry)) (resize region pages) .after .pool ⌝ }
 {
     resize(snapshot, control, pool, region, pages)
 }

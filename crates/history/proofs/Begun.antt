@@ -21,7 +21,8 @@ use Rattle.invoke.specs.Invoke.{beginCheck, beginNumber, beginControl, fresh}
 use Rattle.invoke.proofs.Accepted.{RoomFacts, room-facts, BeginFacts, begin-facts, program-known, program-fits}
 use Rattle.invoke.proofs.Fresh.{fresh-frames, fresh-invocations, fresh-valid, fresh-invocation, fresh-current-valid, fresh-entry, fresh-claims}
 use Rattle.changes.specs.Keys.{keyClaim, isCopied}
-use Rattle.history.specs.Calls.{begin, stepOf, accepted, effect}
+use Rattle.hekthumar.specs.Steps.{begin, stepOf}
+use Rattle.history.specs.Calls.{accepted, effect}
 use Rattle.history.specs.Replay.{Replay, started, replayEffect}
 use Rattle.history.proofs.Good.{copyOf, LiveRecord, Good}
 use Rattle.history.proofs.Others.{GoodAfter}

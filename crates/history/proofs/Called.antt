@@ -20,7 +20,8 @@ use Rattle.invoke.specs.Invoke.{callCheck, called, callControl, returnCheck, le
 use Rattle.invoke.proofs.Accepted.{CallFacts, call-facts, ReturnFacts, return-facts, program-known, program-fits}
 use Rattle.invoke.proofs.Depth.{called-frames, called-invocations, called-valid, called-entry, called-invocation, called-new, returned-frames, returned-invocations, returned-valid, returned-entry, returned-copy, returned-invocation}
 use Rattle.regions.proofs.Pages.{claims-ext}
-use Rattle.history.specs.Calls.{call, return, stepOf, accepted, effect}
+use Rattle.hekthumar.specs.Steps.{call, return, stepOf}
+use Rattle.history.specs.Calls.{accepted, effect}
 use Rattle.history.specs.Replay.{Replay, replayEffect}
 use Rattle.history.proofs.Good.{copyOf, LiveRecord, Good}
 use Rattle.history.proofs.Others.{GoodAfter, keep-other, record-same, records-valid, replay-stays}

@@ -26,7 +26,8 @@ use Rattle.lifecycle.specs.Regions.{Rights, framesWith}
 use Rattle.lifecycle.proofs.After.{begun-right, begin-right, call-right, return-right, resize-right}
 use Rattle.lifecycle.proofs.Copied.{copied-right}
 use Rattle.lifecycle.proofs.Counted.{in-use-pages}
-use Rattle.history.specs.Calls.{Call, begin, translation, load, store, fetch, load-span, store-span, call, return, resize, change-list, page-view, stepOf, run}
+use Rattle.hekthumar.specs.Steps.{Call, begin, translation, load, store, fetch, load-span, store-span, call, return, resize, change-list, page-view, stepOf}
+use Rattle.history.specs.Calls.{run}
 use Rattle.history.specs.Calls as calls
 use Rattle.history.specs.Replay.{started, replay, feed}
 use Rattle.history.specs.Claims.{FrameCountRule}

@@ -6,7 +6,8 @@ use mathlib.Core.List.{List, [], _∷_}
 use Prim.Native.Nat.{ℕ}
 use Rattle.control.specs.Buffers.{Buffers}
 use Rattle.invoke.specs.declared.begin.Start.{Start}
-use Rattle.history.specs.Calls.{Call, begin, stepOf, accepted, run, effect}
+use Rattle.hekthumar.specs.Steps.{Call, begin, stepOf}
+use Rattle.history.specs.Calls.{accepted, run, effect}
 use Rattle.history.specs.Replay.{Replay, started, replayEffect, replayStep, replay, feed}
 use Rattle.history.specs.Claims.{LoadRight, LoadsRight}
 use Rattle.history.proofs.Good.{Good}

@@ -29,7 +29,7 @@ use Rattle.translate.specs.declared.place.Translation.the-variants.{Allowed, Re
 use Rattle.translate.proofs.Accepted.{data-accepted}
 use Rattle.access.specs.Loads.{loadOf, loadSpanOutcome, loadSpanOut}
 use Rattle.access.proofs.Seen.{seen, load-value, load-span-bytes}
-use Rattle.history.specs.Calls.{Call, begin, translation, load, store, fetch, load-span, store-span, call, return, resize, change-list, page-view, stepOf}
+use Rattle.hekthumar.specs.Steps.{Call, begin, translation, load, store, fetch, load-span, store-span, call, return, resize, change-list, page-view, stepOf}
 use Rattle.history.specs.Replay.{Replay, inData}
 use Rattle.history.specs.Claims.{LoadRight}
 use Rattle.history.proofs.Good.{copyOf, Good}

@@ -17,7 +17,8 @@ use Rattle.frames.proofs.Entries.{EntryRange}
 use Rattle.frames.proofs.Claims.{frame-ext}
 use Rattle.frames.proofs.OnlyTable.{OnlyTable, table-frames, table-invocations, table-invocation}
 use Rattle.changes.specs.Keys.{keyClaim, isCopied}
-use Rattle.history.specs.Calls.{Call, stepOf, accepted, effect}
+use Rattle.hekthumar.specs.Steps.{Call, stepOf}
+use Rattle.history.specs.Calls.{accepted, effect}
 use Rattle.history.specs.Replay.{Replay, replayEffect, replayStep}
 use Rattle.history.proofs.Good.{copyOf, LiveRecord, Good}
 

@@ -10,9 +10,10 @@ use Rattle.words.specs.Words.{wordBytes}
 use Rattle.words.proofs.Word.{length-wordBytes}
 use Rattle.choice.proofs.Tests.{by-test, differ}
 use Rattle.refusal.specs.Numbers.{done}
-use Rattle.refusal.specs.Checks.{checkNumber, orKeep}
+use Rattle.refusal.specs.Checks.{checkNumber, orKeep, need}
 use Rattle.refusal.specs.declared.Check.{Check}
 use Rattle.refusal.specs.declared.Check.the-variants.{Pass, Stop}
+use Rattle.refusal.specs.declared.Refusal.the-variants.{BadList}
 use Rattle.control.specs.Control.{sizeOf}
 use Rattle.control.specs.declared.shadow.Region.{Region}
 use Rattle.control.specs.Buffers.{Buffers}
@@ -26,34 +27,16 @@ use Rattle.access.specs.Stores.{controlAfter, poolAfter, storeOutcome, storeCon
 use Rattle.invoke.specs.Invoke.{beginCheck, beginNumber, beginControl, callCheck, callNumber, callControl, returnCheck, returnNumber, returnControl, returnOut}
 use Rattle.regions.specs.Resize.{Resized, growCheck, growTo, shrinkCheck, shrinkControl, resizeTo, resizeCheck, regionOf, orRefused, resizeOf}
 use Rattle.changes.specs.List.{listCheck, changeListNumber, changeListOut}
+use Rattle.apply.specs.Apply.{listGood, applyNumber, applyData}
 use Rattle.view.specs.View.{viewOf, viewNumber, viewBytes}
 use Rattle.view.specs.declared.View.{View}
 use Rattle.view.specs.declared.View.the-variants as view
-use Rattle.history.specs.Calls.{Call, begin, translation, load, store, fetch, load-span, store-span, call, return, resize, change-list, page-view, Step, stepOf, accepted}
+use Rattle.hekthumar.specs.Steps.{Call, begin, translation, load, store, fetch, load-span, store-span, call, return, resize, change-list, page-view, stepOf}
+use Rattle.history.specs.Calls.{accepted}
+use Rattle.history.specs.Refusals.{given, Unchanged, RefusedKeeps, ApplyKeeps}
 use Rattle.history.specs.Replay.{Replay}
 use Rattle.history.proofs.Good.{Good}
 use Rattle.history.proofs.Others.{GoodAfter}
-
--- what is left of the lent buffer of a call that is refused: its bytes as they were given; there is none, or an empty view, otherwise
-unfoldable pub given : Call → List ℕ
-given (begin x) = []
-given (translation kind a n) = []
-given (load a n) = []
-given (store a n v) = []
-given (fetch a n) = []
-given (load-span a out) = out
-given (store-span a bytes) = []
-given (call a registers) = []
-given (return registers) = registers
-given (resize region n) = []
-given (change-list out) = out
-given (page-view a q) = []
-
--- a step that changes nothing
-pub record Unchanged (b : Buffers) (k : Call) (x : Step) : Type 0 where
-  pub after : x .after ≡ b
-  pub value : x .answer .value ≡ 0
-  pub bytes : x .answer .bytes ≡ given k
 
 -- ---- by the parts of a call
 
@@ -161,6 +144,16 @@ module _ (s : List ℕ) (b : Buffers) where
       record { after = refl; value = refl; bytes = stop-keeps (listCheck s c p (length out)) out _ e }
   refused-keeps (page-view a q) e = record { after = refl; value = refl; bytes = no-view s c p (viewOf s c p a q) e }
 
--- so it keeps the invariant
+-- the same as one statement
+pub every-refused-keeps : RefusedKeeps
+unfolding RefusedKeeps
+every-refused-keeps = refused-keeps
+
+-- and of the application of a list
+pub apply-keeps : ApplyKeeps
+unfolding ApplyKeeps applyNumber applyData
+apply-keeps l a d e = stop-keeps (need (listGood l a (length d)) BadList) d _ e
+
+-- so a refused call keeps the invariant
 pub keep-refused : {s : List ℕ} {b : Buffers} {r : Replay} → Good s b r → (k : Call) → accepted s b k ≡ false → GoodAfter s b r k
 keep-refused {s} {b} g k e = rw (e, refused-keeps s b k e .after) g

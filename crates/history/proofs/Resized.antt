@@ -31,7 +31,8 @@ use Rattle.regions.specs.Resize.{pageAt, grown, growCheck, growTo, shrunk, shri
 use Rattle.regions.proofs.Pages.{page-below, page-range}
 use Rattle.regions.proofs.Grown.{grown-only, grown-pool, grown-kept, grown-either, grown-copies}
 use Rattle.regions.proofs.Shrunk.{shrunk-only, shrunk-copies, shrunk-kept, shrunk-freed, among-or}
-use Rattle.history.specs.Calls.{resize, stepOf, accepted, effect}
+use Rattle.hekthumar.specs.Steps.{resize, stepOf}
+use Rattle.history.specs.Calls.{accepted, effect}
 use Rattle.history.specs.Replay.{Replay, replayEffect}
 use Rattle.history.proofs.Good.{copyOf, LiveRecord, Good}
 use Rattle.history.proofs.Others.{GoodAfter, keep-other, keep-table, record-same, records-valid, replay-stays}

@@ -3,7 +3,8 @@ use Prim.Native.Nat.{ℕ}
 use mathlib.Core.Path.{refl}
 use mathlib.Core.List.{List}
 use Rattle.control.specs.Buffers.{Buffers}
-use Rattle.history.specs.Calls.{Call, begin, translation, load, store, fetch, load-span, store-span, call, return, resize, change-list, page-view, stepOf, effect}
+use Rattle.hekthumar.specs.Steps.{Call, begin, translation, load, store, fetch, load-span, store-span, call, return, resize, change-list, page-view, stepOf}
+use Rattle.history.specs.Calls.{effect}
 use Rattle.history.specs.Replay.{Replay, replayEffect}
 use Rattle.history.proofs.Good.{Good}
 use Rattle.history.proofs.Others.{GoodAfter, keep-read}

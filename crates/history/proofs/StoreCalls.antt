@@ -20,7 +20,8 @@ use Rattle.translate.specs.Translate.{translateOf}
 use Rattle.translate.specs.declared.place.Translation.{Translation}
 use Rattle.translate.specs.declared.place.Translation.the-variants.{Allowed, Refused}
 use Rattle.access.specs.Stores.{controlAfter, poolAfter, storeOutcome, storeControl, storePool}
-use Rattle.history.specs.Calls.{store, store-span, stepOf, effect}
+use Rattle.hekthumar.specs.Steps.{store, store-span, stepOf}
+use Rattle.history.specs.Calls.{effect}
 use Rattle.history.specs.Replay.{Replay, inData, stored, replayEffect}
 use Rattle.history.proofs.Good.{Good}
 use Rattle.history.proofs.Others.{GoodAfter}

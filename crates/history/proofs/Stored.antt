@@ -42,7 +42,7 @@ use Rattle.translate.specs.declared.place.Place.{Place}
 use Rattle.translate.specs.declared.place.Translation.the-variants.{Allowed}
 use Rattle.translate.proofs.Accepted.{DataAccess, accepted, data-accepted}
 use Rattle.translate.proofs.Stores.{StorePlace, into-copy, into-new, into-region, store-place}
-use Rattle.access.specs.Stores.{placeInPool, preparedControl, preparedPool, copyEntry, takenControl, takenPool}
+use Rattle.access.specs.Stores.{preparedControl, storedAt, copyEntry, takenControl, takenPool}
 use Rattle.access.proofs.Seen.{copied-byte}
 use Rattle.changes.specs.Keys.{keyOf, keyLimit, keyClaim, isCopied}
 use Rattle.history.specs.Replay.{Replay, stored}
@@ -312,7 +312,7 @@ stored-at r a bytes d q u v = rw (u, v) (stored-is r a bytes)
 -- the buffers after a store
 abbrev pub afterStore : List ℕ → Buffers → Place → List ℕ → Buffers
 afterStore s b q bytes =
-    record { control = preparedControl (b .control) q; pool = splice (preparedPool s (b .pool) q) (placeInPool q) bytes }
+    record { control = preparedControl (b .control) q; pool = storedAt s (b .pool) bytes q }
 
 module _ {s : List ℕ} {b : Buffers} {r : Replay} (g : Good s b r) (kind a : ℕ) (bytes : List ℕ) where
   -- account data: the page has a frame, or gets one

@@ -6,7 +6,8 @@ use mathlib.Core.Bool.{true}
 use Prim.Native.Nat.{ℕ}
 use Rattle.control.specs.Buffers.{Buffers}
 use Rattle.invoke.specs.declared.begin.Start.{Start}
-use Rattle.history.specs.Calls.{Call, begin, accepted, run}
+use Rattle.hekthumar.specs.Steps.{Call, begin}
+use Rattle.history.specs.Calls.{accepted, run}
 use Rattle.history.specs.Replay.{started, replay, feed}
 use Rattle.history.specs.Claims.{DemandThree, LoadsRight}
 use Rattle.history.proofs.Good.{Good}

@@ -1,92 +1,12 @@
--- Document 01, "The replay": "A history is a list as in demand 3." Each call does what the definitions in its contract say.
--- Assumes nothing.
+-- Document 01, "The replay": "A history is a list as in demand 3." What an accepted call means to the replay. Assumes nothing.
 use Prim.Native.Nat.{ℕ}
 use mathlib.Core.Bool.{Bool}
 use mathlib.Core.List.{List, [], _∷_}
 use lib.Dec.{eqb}
 use Rattle.words.specs.Words.{wordBytes}
 use Rattle.refusal.specs.Numbers.{done}
-use Rattle.snapshot.specs.declared.accounts.Account.{Account}
 use Rattle.control.specs.Buffers.{Buffers}
-use Rattle.pages.specs.declared.Page.{Page}
-use Rattle.segments.specs.Kinds.{kindStore, kindStoreSpan}
-use Rattle.translate.specs.Place.{numberOfAnswer}
-use Rattle.translate.specs.Translate.{translateOf}
-use Rattle.access.specs.Loads.{loadOf, fetchOf, loadSpanOutcome, loadSpanOut}
-use Rattle.access.specs.Stores.{storeOutcome, storeControl, storePool}
-use Rattle.invoke.specs.declared.begin.Start.{Start}
-use Rattle.invoke.specs.Invoke.{beginNumber, beginControl, callNumber, callControl, returnNumber, returnControl, returnOut}
-use Rattle.regions.specs.Resize.{resizeOf}
-use Rattle.changes.specs.List.{changeListNumber, changeListOut}
-use Rattle.view.specs.View.{viewOf, viewNumber, viewBytes}
-use lib.ListN.{length}
-
--- "begin, translation, load, store, fetch, span load, span store, call, return, resize, change list, page view", each with its
--- arguments but the three buffers. A lent buffer is given by the bytes that it brings: it "may be lent again and bring any bytes".
-pub data Call : Type 0 where
-  begin : Start → Call
-  translation : (kind address size : ℕ) → Call
-  load : (address size : ℕ) → Call
-  store : (address size stored : ℕ) → Call
-  fetch : (address size : ℕ) → Call
-  load-span : (address : ℕ) (out : List ℕ) → Call
-  store-span : (address : ℕ) (bytes : List ℕ) → Call
-  call : Account → (registers : List ℕ) → Call
-  return : (registers : List ℕ) → Call
-  resize : (region pages : ℕ) → Call
-  change-list : (out : List ℕ) → Call
-  page-view : Account → Page → Call
-
--- what a call gives: its number, its value, and the bytes of its lent buffer afterwards or of its view
-pub record Answer : Type 0 where
-  pub number : ℕ
-  pub value : ℕ
-  pub bytes : List ℕ
-
--- an answer, and the working buffers as the call leaves them
-pub record Step : Type 0 where
-  pub answer : Answer
-  pub after : Buffers
-
--- a call that writes no working buffer
-abbrev pub reads : Buffers → ℕ → ℕ → List ℕ → Step
-reads b number value bytes = record { answer = record { number = number; value = value; bytes = bytes }; after = b }
-
--- a call that writes working buffers
-abbrev pub writes : Buffers → ℕ → List ℕ → Step
-writes after number bytes = record { answer = record { number = number; value = 0; bytes = bytes }; after = after }
-
--- the working buffers, one by one
-abbrev pub buffers : List ℕ → List ℕ → Buffers
-buffers c p = record { control = c; pool = p }
-
--- one call: "Every call is lent the same read-only buffer, and the same two working buffers as the last call left them."
-unfoldable pub stepOf : List ℕ → Buffers → Call → Step
-stepOf s b (begin x) = writes (buffers (beginControl s (b .control) (b .pool) x) (b .pool)) (beginNumber s (b .control) (b .pool) x) []
-stepOf s b (translation kind a n) = reads b (numberOfAnswer (translateOf s (b .control) (b .pool) kind a n)) 0 []
-stepOf s b (load a n) = reads b (loadOf s (b .control) (b .pool) a n .outcome .number) (loadOf s (b .control) (b .pool) a n .value) []
-stepOf s b (store a n v) =
-    writes (buffers (storeControl s (b .control) (b .pool) kindStore a n) (storePool s (b .control) (b .pool) kindStore a (wordBytes n v)))
-    (storeOutcome s (b .control) (b .pool) kindStore a n .number)
-    []
-stepOf s b (fetch a n) = reads b (fetchOf s (b .control) (b .pool) a n .outcome .number) (fetchOf s (b .control) (b .pool) a n .value) []
-stepOf s b (load-span a out) =
-    reads b (loadSpanOutcome s (b .control) (b .pool) a out .number) 0 (loadSpanOut s (b .control) (b .pool) a out)
-stepOf s b (store-span a bytes) =
-    writes (buffers (storeControl s (b .control) (b .pool) kindStoreSpan a (length bytes)) (storePool s (b .control) (b .pool) kindStoreSpan a bytes))
-    (storeOutcome s (b .control) (b .pool) kindStoreSpan a (length bytes) .number)
-    []
-stepOf s b (call a registers) =
-    writes (buffers (callControl s (b .control) (b .pool) a registers) (b .pool)) (callNumber s (b .control) (b .pool) a registers) []
-stepOf s b (return registers) =
-    writes (buffers (returnControl s (b .control) (b .pool) registers) (b .pool)) (returnNumber s (b .control) (b .pool) registers)
-    (returnOut s (b .control) (b .pool) registers)
-stepOf s b (resize region n) =
-    writes (resizeOf s (b .control) (b .pool) region n .after) (resizeOf s (b .control) (b .pool) region n .number) []
-stepOf s b (change-list out) =
-    reads b (changeListNumber s (b .control) (b .pool) out) 0 (changeListOut s (b .control) (b .pool) out)
-stepOf s b (page-view a q) =
-    reads b (viewNumber (viewOf s (b .control) (b .pool) a q)) 0 (viewBytes s (b .pool) (viewOf s (b .control) (b .pool) a q))
+use Rattle.hekthumar.specs.Steps.{Call, begin, translation, load, store, fetch, load-span, store-span, call, return, resize, change-list, page-view, stepOf}
 
 -- "Accepted means answered with 0."
 abbrev pub accepted : List ℕ → Buffers → Call → Bool

@@ -16,7 +16,8 @@ use Rattle.invoke.specs.declared.begin.Start.{Start}
 use Rattle.changes.specs.List.{changeListNumber, changeListOut}
 use Rattle.apply.specs.Apply.{applyNumber, applyData}
 use Rattle.lifecycle.specs.Regions.{framesInUse}
-use Rattle.history.specs.Calls.{Call, begin, translation, load, store, fetch, load-span, store-span, call, return, resize, change-list, page-view, Answer, stepOf, accepted, run}
+use Rattle.hekthumar.specs.Steps.{Call, begin, translation, load, store, fetch, load-span, store-span, call, return, resize, change-list, page-view, Answer, stepOf}
+use Rattle.history.specs.Calls.{accepted, run}
 use Rattle.history.specs.Replay.{Replay, started, inData, replayStep, replay, feed, touchedKeys, expectedList}
 
 -- "Every accepted load or span load in type 3 gave the bytes that the plain copy its index names held there at that call, a load as

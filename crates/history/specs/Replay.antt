@@ -14,7 +14,8 @@ use Rattle.pages.specs.Pages.{live}
 use Rattle.changes.specs.Keys.{keyOf, keyAccount, keyPage, keyLimit}
 use Rattle.changes.specs.Entry.{changeOf}
 use Rattle.changes.specs.List.{listBytes, padded}
-use Rattle.history.specs.Calls.{Call, stepOf, accepted, Effect, starts, stores, other, effect}
+use Rattle.hekthumar.specs.Steps.{Call, stepOf}
+use Rattle.history.specs.Calls.{accepted, Effect, starts, stores, other, effect}
 
 -- "It keeps, for each account with a fit entry, a plain copy of its data, apart from any other account's, and a set of touched pages
 -- (account, offset/4,096)." A copy is kept for every number; those of other accounts concern no claim. The set is a test on keys.

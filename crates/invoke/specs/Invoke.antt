@@ -44,7 +44,7 @@ roomValid control pool =
 unfoldable pub beginCheck : List ℕ → ℕ → ℕ → Start → Check
 beginCheck s control pool x = need (both (snapshotValid s) (roomValid control pool)) Invalid then programCheck s (x .program)
 
--- "Header of four u32: frame count F, live invocations D, offset of shadow frames (16), offset of the frame table (4,504)"
+-- "Header of four u32: frame count F .., live invocations D .., offset of shadow frames (16), offset of the frame table (4,504)"
 unfoldable pub headerBytes : ℕ → ℕ → List ℕ
 headerBytes f d = wordBytes 4 f ++ (wordBytes 4 d ++ (wordBytes 4 shadowAt ++ wordBytes 4 tableAt))
 
@@ -89,9 +89,9 @@ callControl s c p a registers = orKeep (callCheck s c p a (length registers)) c 
 
 -- "1, 2, 9"
 unfoldable pub returnCheck : List ℕ → List ℕ → List ℕ → ℕ → Check
-returnCheck s c p size =
+returnCheck s c p room =
     need (buffersValid s c p) Invalid
-    then need (eqb size registersSize) BadRequest
+    then need (eqb room registersSize) BadRequest
     then need (ltb 1 (invocations c)) DepthLimit
 
 -- "every stack and heap frame whose tag is at or above D−1"

@@ -9,8 +9,8 @@ use Rattle.words.specs.Words.{wordAt}
 use Rattle.choice.specs.Choice.{both}
 use Rattle.snapshot.specs.declared.header.Header.{Header}
 
--- "Header of eight u32: account count A, block contexts B, transaction length T, then the offsets of the account table, of the
--- contexts, of the transaction and of the data, then the total length"
+-- "Header of eight u32: account count A .., block contexts B .., transaction length T .., then the offsets of the account table .., of the
+-- contexts .., of the transaction .. and of the data .., then the total length"
 unfoldable pub headerOf : List ℕ → Header
 headerOf s =
     record {

@@ -50,7 +50,7 @@ use Rattle.translate.specs.declared.place.Translation.the-variants.{Allo
 abbrev pub indexed : Request → Account
 indexed q = record { 0 = q .index }
 
--- the current program: "frame D must name a program"
+-- the current program: "Frame D must name a program"
 abbrev pub program : List ℕ → Account
 program c = current c .program
 
@@ -115,7 +115,7 @@ startOf s c Data q = entryOf s (indexed q) .start + q .offset
 startOf s c Stack q = 0
 startOf s c Heap q = 0
 
--- where an account's metadata stands. 000: "Non-existent accounts: zeroed metadata"
+-- where an account's metadata stands. 000: "Non-existent accounts: Returns pointer to zeroed metadata structure"
 abbrev pub metadataBuffer : AccountEntry → Buffer
 metadataBuffer e = pick (exists e) buffer.Snapshot buffer.Zeros
 

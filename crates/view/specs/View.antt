@@ -53,6 +53,13 @@ viewNumber (InSnapshot at n) = done
 viewNumber (InPool at n) = done
 viewNumber (Refused r) = numberOf r
 
+-- where the part starts, by the places where the two buffers start: so many bytes into the one that holds the page. A refused view starts
+-- with the snapshot
+abbrev pub viewStart : (snapshot pool : ℕ × ℕ) → View → ℕ × ℕ
+viewStart s p (InSnapshot at n) = (s .0, at + s .1)
+viewStart s p (InPool at n) = (p .0, at + p .1)
+viewStart s p (Refused r) = s
+
 -- the bytes of each case; "a view is empty" where refused
 abbrev pub viewBytes : List ℕ → List ℕ → View → List ℕ
 viewBytes s p (InSnapshot at n) = bytesAt n s at

@@ -18,7 +18,7 @@ ghost use mathlib.Core.Path.{_≡_};
 ghost use mathlib.Core.Bool.{true};
 ghost use Prim.Native.Nat.{_<_};
 ghost use Rattle.control.specs.Control.{controlValid};
-ghost use Rattle.view.specs.View.{viewOfEntry, viewOf, viewNumber, viewBytes};
+ghost use Rattle.view.specs.View.{viewOfEntry, viewOf, viewNumber, viewStart, viewBytes};
 
 // Where a page's live bytes lie: a start and a length in the snapshot or in the pool.
 pub enum View {
@@ -68,6 +68,7 @@ pub fn view_number(s: &[u8], c: &[u8], pool: &[u8], a: Account, page: Page) -> u
 
 // The page's live bytes, uncopied: a part of whichever of the two slices holds the page now. A refused view is empty.
 pub fn page_view<'a>(s: &'a [u8], c: &[u8], pool: &'a [u8], a: Account, page: Page) -> &'a [u8]
+    ensures { λ r. ⌜ r .ptr ≡ viewStart (s .entry .ptr) (pool .entry .ptr) (viewOf (now (s .entry)) (now (c .entry)) (now (pool .entry)) a page) ⌝ }
     ensures { λ r. ⌜ now r ≡ viewBytes (now (s .entry)) (now (pool .entry)) (viewOf (now (s .entry)) (now (c .entry)) (now (pool .entry)) a page) ⌝ }
 {
     match find_view(s, c, pool, a, page) {

@@ -100,7 +100,7 @@ fn large_worlds() {
 fn a_difference_is_told_in_full() {
     let plan = Plan { bug: Some(Bug::GrownPageNotZeroed), ..Plan::new(SEEDS[0], 0) };
     let text = history::run(plan, &mut Coverage::default()).expect_err("the first history grows a region");
-    println!("{text}");
+    println!("a planted difference, as a failing test tells it:\n{text}");
     for part in ["seed 0x1, history 0", "call ", "Resize { region: ", "library: Number(0)", "model:   Number(0)", "pool at byte 0x"] {
         assert!(text.contains(part), "{part:?} is missing in {text}");
     }

@@ -3,13 +3,14 @@
 use Prim.Native.Nat.{ℕ, _+_, _-_, _≤_}
 use mathlib.Core.Path.{_≡_, sym, ap, _∙_}
 use mathlib.Core.List.{List}
+use native.Mathlib.Nat.{zero-add}
 use native.Mathlib.Omega.{arith}
 use lib.ListN.{length, take, drop}
 use borrow.Author.Needs.{needs}
 use Rattle.words.specs.Words.{bytesAt}
 use Rattle.snapshot.specs.declared.accounts.Account.{Account}
 use Rattle.pages.specs.declared.Page.{Page}
-use Rattle.view.specs.View.{viewOf, viewBytes}
+use Rattle.view.specs.View.{viewOf, viewStart, viewBytes}
 use Rattle.view.specs.declared.View.{View}
 use Rattle.view.specs.declared.View.the-variants.{InSnapshot, InPool}
 use Rattle.view.proofs.Parts.{run-part}
@@ -83,14 +84,30 @@ part-result-start-3 c = search needs
 part-result-end-3 : tie.Need-part-result-end-3
 part-result-end-3 c = search needs
 
+-- where the function starts, and where the part starts in each case of the view
+abbrev start-of : tie.After-find-view → tie.Start
+start-of c = c .before .before .before .before
+
+abbrev starts : tie.After-find-view → View → ℕ × ℕ
+starts c v = viewStart (start-of c .args .s .ptr) (start-of c .args .pool .ptr) v
+
 returns : tie.Need-returns
-returns c = of-snapshot _ _ _ _ _ (c .before .before .before .before .find-view .ensures) (c .before .before .at .given .1)
+returns c =
+    let k = c .before .before .before .before in
+    let g = c .before .before .at .given .1 in
+    (ap (starts k) (sym g ∙ k .find-view .ensures), of-snapshot _ _ _ _ _ (k .find-view .ensures) g)
 
 returns-2 : tie.Need-returns-2
-returns-2 c = of-pool _ _ _ _ _ (c .before .before .before .before .find-view .ensures) (c .before .before .at2 .given .1)
+returns-2 c =
+    let k = c .before .before .before .before in
+    let g = c .before .before .at2 .given .1 in
+    (ap (starts k) (sym g ∙ k .find-view .ensures), of-pool _ _ _ _ _ (k .find-view .ensures) g)
 
 returns-3 : tie.Need-returns-3
-returns-3 c = ap (viewBytes _ _) (sym (c .before .enum-told .given .1) ∙ c .before .before .before .find-view .ensures)
+returns-3 c =
+    let k = c .before .before .before in
+    let e = sym (c .before .enum-told .given .1) ∙ k .find-view .ensures in
+    (ap (λ (x : ℕ). (start-of k .args .s .ptr .0, x)) (zero-add (start-of k .args .s .ptr .1)) ∙ ap (starts k) e, ap (viewBytes _ _) e)
 
 pub page-view-spec : {M : Type 1} → statement M
 page-view-spec =

@@ -1,7 +1,13 @@
--- `hekthumar::invocations::hekthumar_begin` meets its contract: it hands on what begin gives. Assumes nothing.
+-- `hekthumar::invocations::hekthumar_begin` meets its contract: it hands on what begin gives, which is the step. Assumes nothing.
+use mathlib.Core.Path.{refl}
 use borrow.Author.Needs.{needs}
+use Rattle.hekthumar.specs.Steps.{stepOf}
 use Rattle.hekthumar.proofs.invocations.hekthumar_begin.Statement.{statement}
 use Rattle.hekthumar.proofs.invocations.hekthumar_begin.Tie as tie
 
+returns : tie.Need-returns
+unfolding stepOf
+returns c = let x = c .before .before .begin .ensures in (x .0, (x .1, refl))
+
 pub hekthumar-begin-spec : {M : Type 1} → statement M
-hekthumar-begin-spec = tie.close (tie.spec (λ c κs. search needs) (λ c. search needs) (λ c. c .before .before .begin .ensures))
+hekthumar-begin-spec = tie.close (tie.spec (λ c κs. search needs) (λ c. search needs) returns)
