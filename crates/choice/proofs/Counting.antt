@@ -8,7 +8,7 @@ use native.Mathlib.Numerals.{add-one}
 use native.Mathlib.Omega.{arith}
 use Rattle.choice.specs.Search.{lowest, count}
 use Rattle.choice.proofs.Tests.{by-test}
-use Rattle.choice.proofs.Lowest.{lowest-le, lowest-hits, lowest-misses}
+use Rattle.choice.proofs.Lowest.{lowest-misses}
 
 -- ---- the turns of a loop that looks at index i
 
@@ -63,14 +63,6 @@ module _ (f : ℕ → Bool) (n : ℕ) where
       elim (decLt (lowest f n) n) [
         | yes p ↦ p
         | no p ↦ absurd (omega (arith, count-none f n (λ j l. lowest-misses f n j (omega arith))))
-      ]
-
-  -- where none passes, there is no lowest
-  pub count-zero : count f n ≡ 0 → lowest f n ≡ n
-  count-zero h =
-      elim (decLt (lowest f n) n) [
-        | yes p ↦ absurd (omega (arith, count-hit f (lowest f n) (lowest-hits f n p), count-grows f (lowest f n + 1) n (omega arith)))
-        | no p ↦ omega (arith, lowest-le f n)
       ]
 
 -- ---- two tests

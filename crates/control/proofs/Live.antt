@@ -10,9 +10,9 @@ use lib.ListN.{length}
 use Rattle.layout.specs.Control.{tableAt, liveLimit}
 use Rattle.words.specs.Words.{wordAt, wordBytes, bytesAt}
 use Rattle.words.proofs.Word.{length-wordBytes, word-same}
-use Rattle.control.specs.Control.{frames, invocations, setInvocations, controlValid, invocationOf, registersOf}
+use Rattle.control.specs.Control.{frames, invocations, setInvocations, controlValid, invocationOf}
 use Rattle.control.proofs.Facts.{ControlFacts, control-facts, control-valid}
-use Rattle.control.proofs.Kept.{Only, only-splice, word-kept, run-kept, invocation-kept, registers-kept}
+use Rattle.control.proofs.Kept.{Only, only-splice, word-kept, run-kept, invocation-kept}
 
 module _ (c : List ℕ) (d : ℕ) where
   -- where it writes
@@ -35,10 +35,6 @@ module _ (c : List ℕ) (d : ℕ) where
   -- every shadow record stays: its program and sizes
   pub live-invocation : (k : ℕ) → invocationOf (setInvocations c d) k ≡ invocationOf c k
   live-invocation k = invocation-kept live-only k (inr (omega arith))
-
-  -- its registers
-  pub live-registers : (k : ℕ) → registersOf (setInvocations c d) k ≡ registersOf c k
-  live-registers k = registers-kept live-only k (inr (omega arith))
 
   -- the number is read back
   pub live-same : d < 2 ^ 32 → tableAt ≤ length c → invocations (setInvocations c d) ≡ d

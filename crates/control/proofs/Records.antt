@@ -10,14 +10,14 @@ use native.Mathlib.Omega.{arith}
 use lib.ListN.{length}
 use Rattle.layout.specs.Control.{shadowAt, shadowSize, tableAt, registersSize, liveLimit}
 use Rattle.words.specs.Words.{wordAt, wordBytes, splice, zeros}
-use Rattle.words.proofs.Splice.{length-splice, splice-append}
+use Rattle.words.proofs.Splice.{splice-append}
 use Rattle.words.proofs.Word.{word-before, word-in, word-zeros, word-same, length-wordBytes}
-use Rattle.words.proofs.Run.{run-back, length-zeros}
-use Rattle.control.specs.Control.{recordAt, controlValid, invocationOf, registersOf, invocationBytes, putInvocation, clearInvocation, regionAt, setPages, pagesOf}
+use Rattle.words.proofs.Run.{length-zeros}
+use Rattle.control.specs.Control.{recordAt, controlValid, invocationOf, invocationBytes, putInvocation, clearInvocation, regionAt, setPages, pagesOf}
 use Rattle.control.specs.declared.shadow.Region.{Region}
 use Rattle.control.specs.declared.shadow.Region.the-variants.{Stack, Heap}
 use Rattle.control.specs.declared.shadow.Invocation.{Invocation}
-use Rattle.control.proofs.Kept.{Only, Apart, only-splice, word-kept, run-kept, invocation-kept, registers-kept, valid-kept}
+use Rattle.control.proofs.Kept.{Only, Apart, only-splice, word-kept, invocation-kept, valid-kept}
 
 -- ---- any write inside record k
 
@@ -33,10 +33,6 @@ module _ (k : ℕ) {c c′ : List ℕ} (o : OnlyRecord k c c′) where
   -- the program and sizes of another record stay
   pub invocation-other : (j : ℕ) → j ≢ k → invocationOf c′ j ≡ invocationOf c j
   invocation-other j h = invocation-kept o j (apart j h)
-
-  -- and its registers
-  pub registers-other : (j : ℕ) → j ≢ k → registersOf c′ j ≡ registersOf c j
-  registers-other j h = registers-kept o j (apart j h)
 
   -- every word of the header stays
   pub header-kept : (w j : ℕ) → j + w ≤ shadowAt → wordAt w c′ j ≡ wordAt w c j
@@ -111,14 +107,6 @@ module _ (c : List ℕ) (k : ℕ) (i : Invocation) (registers : List ℕ) where
         (sym (field-put 2 (omega arith) ∙ f .1))
         (sym (field-put 4 (omega arith) ∙ f .2)))
 
-    -- and the registers
-    pub registers-same : length registers ≡ registersSize → registersOf (putInvocation c k i registers) k ≡ registers
-    unfolding registersOf
-    registers-same e =
-        let s : List ℕ = splice c (recordAt k) (fieldBytes i) in
-        let n : length s ≡ length c = length-splice c (recordAt k) (fieldBytes i) in
-        rw put-parts (rw e at (run-back s (recordAt k + 8) registers (omega arith)))
-
 -- ---- a record cleared
 
 module _ (c : List ℕ) (k : ℕ) where
@@ -159,11 +147,6 @@ module _ (c : List ℕ) (k : ℕ) (r : Region) (n : ℕ) where
   pub pages-program : invocationOf (setPages c k r n) k .program ≡ invocationOf c k .program
   unfolding invocationOf
   pages-program = ap (λ (x : ℕ). record { 0 = x }) (word-kept size-only 2 (recordAt k) (inl (omega (arith, region-place r))))
-
-  -- the registers stay
-  pub pages-registers : registersOf (setPages c k r n) k ≡ registersOf c k
-  unfolding registersOf
-  pages-registers = run-kept size-only registersSize (recordAt k + 8) (inr (omega (arith, region-place r)))
 
 -- the size of the other region stays
 pub pages-other : (c : List ℕ) (k : ℕ) (r : Region) (n : ℕ) (q : Region) → q ≢ r → pagesOf (invocationOf (setPages c k r n) k) q ≡ pagesOf (invocationOf c k) q

@@ -175,11 +175,6 @@ module _ (c : List ℕ) (i : ℕ) (e : FrameEntry) (r : EntryRange e) (l : entry
   unfolding claims
   claims-same q = ap (λ (x : FrameEntry). holds q x) (entry-same c i e r l)
 
-  -- it is free where the one given has use byte 0
-  pub free-same : isFree (putFrameEntry c i e) i ≡ unused e
-  unfolding isFree
-  free-same = ap unused (entry-same c i e r l)
-
   -- a page without a frame, held by the new entry, has this frame
   pub frame-taken : (q : Claim) → frameOf c q ≡ Nothing → i < frames c → holds q e ≡ true
       → frameOf (putFrameEntry c i e) q ≡ At (record { 0 = i })

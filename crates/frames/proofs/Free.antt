@@ -1,24 +1,23 @@
 -- The laws of free frames: which is handed out next, and how many there are before and after a write. A count of the entries
 -- that pass a test, whichever, goes up or down by one with the entry that is written. Assumes nothing.
-use mathlib.Core.Path.{_≡_, refl, sym, ap, _∙_}
+use mathlib.Core.Path.{_≡_, ap, _∙_}
 use mathlib.Core.Bool.{Bool, true, false}
 use mathlib.Core.Logic.{_≢_}
 use mathlib.Core.List.{List}
 use Prim.Native.Nat.{ℕ, suc, _≤_, _<_}
-use native.Mathlib.Decide.{ℕ-discrete}
 use lib.ListN.{length}
 use borrow.Author.Tests.{ne-eqb}
 use Rattle.choice.specs.Search.{lowest, count}
-use Rattle.choice.proofs.Counting.{count-some, count-ext, count-more, count-less}
+use Rattle.choice.proofs.Counting.{count-some, count-more, count-less}
 use Rattle.control.specs.Control.{frames}
 use Rattle.pages.specs.declared.Frame.{Frame}
-use Rattle.frames.specs.Table.{entryEnd, frameEntryOf, putFrameEntry, zeroEntry, freeFrameEntry, isFree, freeFrame, freeCount}
+use Rattle.frames.specs.Table.{entryEnd, frameEntryOf, putFrameEntry, isFree, freeFrame, freeCount}
 use Rattle.frames.specs.declared.table.FrameEntry.{FrameEntry}
-use Rattle.frames.specs.declared.finding.Found.the-variants.{At, Nothing}
-use Rattle.frames.proofs.Entries.{EntryRange, entry-other, entry-same, zero-range}
+use Rattle.frames.specs.declared.finding.Found.the-variants.{At}
+use Rattle.frames.proofs.Entries.{EntryRange, entry-other, entry-same}
 use Rattle.frames.proofs.Untouched.{frames-kept}
 use Rattle.frames.proofs.Claims.{unused}
-use Rattle.frames.proofs.Found.{First, lowest-first, at-first, nothing-none, first-at}
+use Rattle.frames.proofs.Found.{First, lowest-first, at-first, first-at}
 
 -- ---- the free frame that is handed out next
 
@@ -27,11 +26,6 @@ module _ (c : List ℕ) where
   pub free-found : (f : Frame) → freeFrame c ≡ At f → First (isFree c) (frames c) (f .0)
   unfolding freeFrame
   free-found f h = at-first (isFree c) (frames c) f h
-
-  -- where none is found, none is free
-  pub free-none : freeFrame c ≡ Nothing → (j : ℕ) → j < frames c → isFree c j ≡ false
-  unfolding freeFrame
-  free-none h j l = nothing-none (isFree c) (frames c) h j l
 
   -- where one is free, the lowest is found
   pub free-some : 1 ≤ freeCount c → freeFrame c ≡ At (record { 0 = lowest (isFree c) (frames c) })
@@ -58,16 +52,6 @@ module _ (c : List ℕ) (i : ℕ) (e : FrameEntry) (r : EntryRange e) (l : entry
       count-less (λ j. t (frameEntryOf c j)) (λ j. t (frameEntryOf (putFrameEntry c i e) j)) n i h o
       (ap t (entry-same c i e r l) ∙ p) (λ j m. ap t (entry-other c i e j m))
 
-  -- both pass or neither: as many
-  pub tally-kept : t (frameEntryOf c i) ≡ t e → tally t (putFrameEntry c i e) n ≡ tally t c n
-  tally-kept h =
-      count-ext (λ j. t (frameEntryOf (putFrameEntry c i e) j)) (λ j. t (frameEntryOf c j)) n
-      (λ j m.
-      elim (ℕ-discrete j i) [
-        | yes p ↦ rw p (ap t (entry-same c i e r l) ∙ sym h)
-        | no p ↦ ap t (entry-other c i e j p)
-      ])
-
 -- ---- how many frames are free, after a write
 
 module _ (c : List ℕ) (i : ℕ) (e : FrameEntry) (r : EntryRange e) (l : entryEnd i ≤ length c) where
@@ -75,10 +59,3 @@ module _ (c : List ℕ) (i : ℕ) (e : FrameEntry) (r : EntryRange e) (l : entry
   pub free-count-taken : i < frames c → isFree c i ≡ true → e .usage ≢ 0 → suc (freeCount (putFrameEntry c i e)) ≡ freeCount c
   unfolding freeCount isFree
   free-count-taken h o p = rw (frames-kept c i e) (tally-lost c i e r l unused (frames c) h o (ne-eqb (e .usage) 0 p))
-
--- an entry is freed: one more
-pub free-count-freed : (c : List ℕ) (i : ℕ) → entryEnd i ≤ length c → i < frames c → isFree c i ≡ false
-    → freeCount (freeFrameEntry c i) ≡ suc (freeCount c)
-unfolding freeCount isFree
-free-count-freed c i l h o =
-    rw (frames-kept c i zeroEntry) (tally-taken c i zeroEntry zero-range l unused (frames c) h o refl)

@@ -9,9 +9,9 @@ use lib.ListN.{length, List·getD-eq-default}
 use Rattle.layout.specs.Control.{tableAt, liveLimit}
 use Rattle.words.proofs.Splice.{splice-before}
 use Rattle.choice.proofs.Tests.{by-test}
-use Rattle.control.specs.Control.{frames, invocations, invocationOf, registersOf, current, controlValid, currentValid, controlReady, buffersValid}
+use Rattle.control.specs.Control.{frames, invocations, invocationOf, current, controlValid, currentValid, controlReady, buffersValid}
 use Rattle.control.proofs.Facts.{control-facts}
-use Rattle.control.proofs.Kept.{Only, word-kept, invocation-kept, registers-kept, valid-kept}
+use Rattle.control.proofs.Kept.{Only, word-kept, invocation-kept, valid-kept}
 use Rattle.frames.specs.Table.{frameEntryAt, frameEntryBytes, putFrameEntry}
 use Rattle.frames.specs.declared.table.FrameEntry.{FrameEntry}
 use Rattle.frames.proofs.Entries.{length-put}
@@ -57,10 +57,6 @@ module _ {c c′ : List ℕ} (o : OnlyTable c c′) where
   -- each shadow record's program and sizes stay
   pub table-invocation : (k : ℕ) → k ≤ liveLimit → invocationOf c′ k ≡ invocationOf c k
   table-invocation k l = invocation-kept o k (inl (omega arith))
-
-  -- and its registers
-  pub table-registers : (k : ℕ) → k ≤ liveLimit → registersOf c′ k ≡ registersOf c k
-  table-registers k l = registers-kept o k (inl (omega arith))
 
   -- the current invocation stays
   pub table-current : invocations c ≤ liveLimit → current c′ ≡ current c

@@ -9,7 +9,7 @@ use Rattle.layout.specs.Control.{tableAt, liveLimit}
 use Rattle.words.specs.Words.{splice}
 use Rattle.words.proofs.Word.{word-behind}
 use Rattle.control.specs.Control.{frames, invocations, invocationOf, buffersValid}
-use Rattle.frames.specs.Table.{frameEntryAt, frameField, frameEntryOf, putFrameEntry, holds, claims, isFree}
+use Rattle.frames.specs.Table.{frameEntryAt, frameField, frameEntryOf, putFrameEntry, holds, claims}
 use Rattle.frames.specs.declared.table.FrameEntry.{FrameEntry}
 use Rattle.frames.specs.declared.finding.Claim.{Claim}
 use Rattle.frames.proofs.OnlyTable.{table-put, table-frames, table-invocations, table-invocation, table-buffers}
@@ -49,8 +49,3 @@ module _ (c : List ℕ) (at : ℕ) (bs : List ℕ) (below : at + length bs ≤ t
   pub claims-above : (q : Claim) → claims (splice c at bs) q i ≡ claims c q i
   unfolding claims
   claims-above q = ap (λ (e : FrameEntry). holds q e) entry-above
-
-  -- it is free where it was
-  pub free-above : isFree (splice c at bs) i ≡ isFree c i
-  unfolding isFree
-  free-above = rw (field-above 1 0)

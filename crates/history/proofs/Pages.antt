@@ -40,14 +40,6 @@ module _ (a p : ℕ) (small-a : a < 65536) (small-p : p < 65536) where
   pub key-below : keyOf a p < keyLimit
   key-below = omega arith
 
-  -- no other page has it
-  pub key-one : (b q : ℕ) → q < 65536 → keyOf b q ≡ keyOf a p → (b ≡ a) × (q ≡ p)
-  key-one b q h e = (omega arith, omega arith)
-
--- a key is that of its account and page
-pub key-back : (k : ℕ) → keyOf (keyAccount k .0) (keyPage k .0) ≡ k
-key-back k = omega arith
-
 -- ---- claims
 
 -- a page that an entry claims has a frame

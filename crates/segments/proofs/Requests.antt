@@ -53,8 +53,3 @@ module _ (offset n : ℕ) where
   pub within-length : within offset n ≡ true → offset % pageSize + n ≤ pageSize
   unfolding within
   within-length e = leb-true (offset % pageSize + n) pageSize e
-
-  -- and the other way round
-  pub length-within : offset % pageSize + n ≤ pageSize → within offset n ≡ true
-  unfolding within
-  length-within h = le-leb (offset % pageSize + n) pageSize h

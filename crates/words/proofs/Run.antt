@@ -7,7 +7,7 @@ use native.Mathlib.Omega.{arith}
 use lib.ListN.{getD, length, List·getD-eq-default}
 use lib.Seq.{ext-getD, set-getD}
 use Rattle.words.specs.Words.{splice, bytesAt, zeros}
-use Rattle.words.proofs.Splice.{length-splice, splice-before, splice-behind, splice-in, splice-inside}
+use Rattle.words.proofs.Splice.{length-splice, splice-before, splice-behind, splice-in}
 
 -- a run is as long as asked
 pub length-bytesAt : (n : ℕ) (s : List ℕ) (at : ℕ) → length (bytesAt n s at) ≡ n
@@ -40,13 +40,6 @@ run-before n s at bs j h = bytesAt-ext n (splice s at bs) s j j (λ k l. splice-
 pub run-behind : (n : ℕ) (s : List ℕ) (at : ℕ) (bs : List ℕ) (j : ℕ) → at + length bs ≤ j → bytesAt n (splice s at bs) j ≡ bytesAt n s j
 run-behind n s at bs j h = bytesAt-ext n (splice s at bs) s j j (λ k l. splice-behind s at bs (j + k) (omega arith))
 
--- a run inside what was put in
-pub run-in : (n : ℕ) (s : List ℕ) (at : ℕ) (bs : List ℕ) (k : ℕ) → k + n ≤ length bs → at + length bs ≤ length s
-    → bytesAt n (splice s at bs) (at + k) ≡ bytesAt n bs k
-run-in n s at bs k h l =
-    bytesAt-ext n (splice s at bs) bs (at + k) k
-    (λ j m. let e : at + k + j ≡ at + (k + j) = omega arith in rw e (splice-in s at bs (k + j) (omega arith) l))
-
 -- what was put in, read back
 pub run-back : (s : List ℕ) (at : ℕ) (bs : List ℕ) → at + length bs ≤ length s → bytesAt (length bs) (splice s at bs) at ≡ bs
 run-back s at bs l = run-is (length bs) (splice s at bs) at bs refl (λ k m. splice-in s at bs k m l)
@@ -56,17 +49,6 @@ pub run-same : (n : ℕ) (s : List ℕ) (at : ℕ) → splice s at (bytesAt n s 
 unfolding splice bytesAt
 run-same zero s at = refl
 run-same (suc n) s at = ap (λ (l : List ℕ). splice l (suc at) (bytesAt n s (suc at))) (set-getD s at 0) ∙ run-same n s (suc at)
-
--- a run around a write has the write in it
-pub run-around : (n : ℕ) (s : List ℕ) (at : ℕ) (bs : List ℕ) (i : ℕ) → i ≤ at → at + length bs ≤ i + n → i + n ≤ length s
-    → bytesAt n (splice s at bs) i ≡ splice (bytesAt n s i) (at - i) bs
-run-around n s at bs i h l m =
-    let xs : List ℕ = bytesAt n s i in
-    let e : i + (at - i) ≡ at = omega arith in
-    let ln : length (splice xs (at - i) bs) ≡ n = length-splice xs (at - i) bs ∙ length-bytesAt n s i in
-    let p : splice s at bs ≡ splice s i (splice xs (at - i) bs) =
-    rw (run-same n s i, e) at (splice-inside s i xs (at - i) bs (omega (arith, length-bytesAt n s i)) (omega (arith, length-bytesAt n s i))) in
-    rw p (rw ln at (run-back s i (splice xs (at - i) bs) (omega arith)))
 
 -- a run of a run
 pub run-run : (n m : ℕ) (s : List ℕ) (at k : ℕ) → k + n ≤ m → bytesAt n (bytesAt m s at) k ≡ bytesAt n s (at + k)

@@ -6,9 +6,9 @@ use native.Mathlib.Nat.{add-zero, add-suc, suc-add, zero-add, pow-succ', pow-zer
 use native.Mathlib.Omega.{arith}
 use lib.ListN.{getD, length, take, List·getD-append}
 use lib.Seq.{getD-append-add}
-use Rattle.words.specs.Words.{wordAt, wordBytes, splice, bytesAt, zeros}
+use Rattle.words.specs.Words.{wordAt, wordBytes, splice, zeros}
 use Rattle.words.proofs.Splice.{splice-before, splice-behind, splice-in}
-use Rattle.words.proofs.Run.{getD-bytesAt, getD-zeros}
+use Rattle.words.proofs.Run.{getD-zeros}
 
 -- a word is what its bytes are
 pub word-ext : (n : ℕ) (s t : List ℕ) (a b : ℕ) → ((k : ℕ) → k < n → getD s (a + k) 0 ≡ getD t (b + k) 0) → wordAt n s a ≡ wordAt n t b
@@ -41,12 +41,6 @@ pub word-right : (n : ℕ) (xs ys : List ℕ) (k : ℕ) → wordAt n (xs ++ ys) 
 word-right n xs ys k =
     word-ext n (xs ++ ys) ys (length xs + k) k
     (λ j l. let e : length xs + k + j ≡ length xs + (k + j) = omega arith in rw e (getD-append-add xs ys (k + j) 0))
-
--- a word inside a run
-pub word-in-run : (n m : ℕ) (s : List ℕ) (at k : ℕ) → k + n ≤ m → wordAt n (bytesAt m s at) k ≡ wordAt n s (at + k)
-word-in-run n m s at k h =
-    word-ext n (bytesAt m s at) s k (at + k)
-    (λ j l. let e : at + k + j ≡ at + (k + j) = omega arith in rw e (getD-bytesAt m s at (k + j) (omega arith)))
 
 -- a word of zeros is 0
 pub word-zeros : (n m at : ℕ) → wordAt n (zeros m) at ≡ 0
