@@ -4,20 +4,28 @@
 #include <stdio.h>
 #include <string.h>
 
-enum { DATA = 32 + 80 * 2, SLOTS = 6000, FRAMES = 2 };
+enum { DATA = HEKTHUMAR_DATA_AT(2, 0, 0), SLOTS = 6000, FRAMES = 2 };
 
-static uint8_t snapshot[DATA + SLOTS], control[4504 + 8 * FRAMES], pool[4096 * FRAMES], list[16 + 4104 * FRAMES], slots[SLOTS];
+static uint8_t snapshot[DATA + SLOTS], control[HEKTHUMAR_CONTROL_LENGTH(FRAMES)], pool[HEKTHUMAR_POOL_LENGTH(FRAMES)];
+static uint8_t list[HEKTHUMAR_LIST_LENGTH(FRAMES)], slots[SLOTS];
 
 static void put(size_t at, uint32_t word) { memcpy(snapshot + at, &word, 4); }
 
+/* An account that account 0 owns, with this many bytes of data. */
+static void put_account(size_t account, uint32_t flags, uint32_t length) {
+    size_t entry = HEKTHUMAR_SNAPSHOT_HEADER + account * HEKTHUMAR_ACCOUNT_ENTRY;
+    put(entry, flags), put(entry + 4, length), put(entry + 8, DATA);
+}
+
 int main(void) {
-    const uint32_t header[8] = {2, 0, 0, 32, DATA, DATA, DATA, DATA + SLOTS};
+    /* two accounts, no block context, an empty transaction; where the four parts start; the total */
+    const uint32_t header[8] = {2, 0, 0, HEKTHUMAR_SNAPSHOT_HEADER, DATA, DATA, DATA, DATA + SLOTS};
     for (size_t i = 0; i < 8; i++) put(4 * i, header[i]);
-    put(32, 1), put(40, DATA);                        /* account 0: the program; it exists (1) */
-    put(112, 3), put(116, SLOTS), put(120, DATA);     /* account 1: its slots; they exist (1) and are writable (2) */
+    put_account(0, HEKTHUMAR_EXISTS, 0); /* the program */
+    put_account(1, HEKTHUMAR_EXISTS | HEKTHUMAR_WRITABLE, SLOTS);
 
 #define LENT snapshot, sizeof snapshot, control, sizeof control, pool, sizeof pool
-    uint64_t page = hekthumar_join(3, 1, 0x1000).address;
+    const uint64_t page = HEKTHUMAR_ADDRESS(HEKTHUMAR_TYPE_DATA, 1, 0x1000);
     int refused = hekthumar_begin(LENT, 0);
     refused += hekthumar_store(LENT, page + 4, 1, 0x11);
     refused += hekthumar_store(LENT, page + 8, 1, 0x22);

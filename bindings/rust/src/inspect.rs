@@ -100,7 +100,7 @@ impl AccountEntry {
     }
 }
 
-/// The header of a control buffer. Offsets count from the buffer's start.
+/// The header of a control block. Offsets count from the block's start.
 #[derive(Clone, Copy, Debug, PartialEq, Eq)]
 pub struct ControlHeader {
     /// How many frames there are.
@@ -114,7 +114,7 @@ pub struct ControlHeader {
 }
 
 impl ControlHeader {
-    /// The header at the start of a control buffer.
+    /// The header at the start of a control block.
     pub fn read(control: &[u8]) -> Option<ControlHeader> {
         let [frames, invocations, shadow_at, table_at] = words(control)?;
         Some(ControlHeader { frames, invocations, shadow_at, table_at })
@@ -145,13 +145,13 @@ impl Invocation {
         Some(Invocation { program: half(record, 0)?, stack: half(record, 2)?, heap: half(record, 4)?, registers })
     }
 
-    /// Where the record with this number starts in a control buffer.
+    /// Where the record with this number starts in a control block.
     pub fn at(number: usize) -> usize {
         CONTROL_HEADER.saturating_add(SHADOW_RECORD.saturating_mul(number))
     }
 }
 
-/// The entry of a frame in a control buffer.
+/// The entry of a frame in a control block.
 #[derive(Clone, Copy, Debug, PartialEq, Eq)]
 pub struct FrameEntry {
     /// 0 free, 1 copy of an account's page, 2 stack, 3 heap; a frame with any other use is held by nobody and never handed out.
@@ -171,13 +171,13 @@ impl FrameEntry {
         Some(FrameEntry { usage: entry[0], tag: entry[1], account: half(entry, 2)?, page: half(entry, 4)? })
     }
 
-    /// Where the entry of this frame starts in a control buffer.
+    /// Where the entry of this frame starts in a control block.
     pub fn at(frame: usize) -> usize {
         FRAME_TABLE.saturating_add(FRAME_ENTRY.saturating_mul(frame))
     }
 }
 
-/// The entries of all frames that a control buffer has room for, frame 0 first.
+/// The entries of all frames that a control block has room for, frame 0 first.
 pub fn frame_entries(control: &[u8]) -> impl Iterator<Item = FrameEntry> + '_ {
     (0..).map_while(|frame| FrameEntry::read(control, frame))
 }

@@ -33,7 +33,7 @@ pub const MAX_DATA: usize = SEGMENT;
 /// The longest snapshot.
 pub const MAX_SNAPSHOT: usize = 1 << 31;
 
-/// Bytes of the control buffer's header: four numbers of 32 bits.
+/// Bytes of the control block's header: four numbers of 32 bits.
 pub const CONTROL_HEADER: usize = 16;
 
 /// Bytes of the record of an invocation in the shadow stack.
@@ -45,7 +45,7 @@ pub const MAX_INVOCATIONS: usize = 16;
 /// Bytes of the shadow stack.
 pub const SHADOW_STACK: usize = SHADOW_RECORD * (MAX_INVOCATIONS + 1);
 
-/// Where the table of frames starts in the control buffer.
+/// Where the table of frames starts in the control block.
 pub const FRAME_TABLE: usize = CONTROL_HEADER + SHADOW_STACK;
 
 /// Bytes of a frame's entry in that table.
@@ -63,7 +63,7 @@ pub const LIST_HEADER: usize = 16;
 /// Bytes of a page's entry in a change list.
 pub const LIST_ENTRY: usize = 8;
 
-/// Length of the control buffer for a number of frames, at most [`MAX_FRAMES`].
+/// Length of the control block for a number of frames, at most [`MAX_FRAMES`].
 pub const fn control_len(frames: usize) -> usize {
     FRAME_TABLE + FRAME_ENTRY * frames
 }

@@ -9,7 +9,7 @@
 //! | Buffer | Holds | Length |
 //! |-|-|-|
 //! | snapshot, read only | accounts, block contexts, the transaction | that of [`SnapshotBuilder::build`] |
-//! | control | the invocations and the table of frames | [`control_len`]`(frames)` |
+//! | control block | the invocations and the table of frames | [`control_len`]`(frames)` |
 //! | pool | frames of 4,096 bytes for copied pages, stack and heap | [`pool_len`]`(frames)` |
 //!
 //! A whole host:

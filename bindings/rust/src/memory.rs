@@ -178,12 +178,12 @@ impl<'a> Memory<'a> {
         PagePlace::from_raw(lend!(as_ptr, self, hekthumar_page_view(account, page)))
     }
 
-    /// The three buffers: snapshot, control, pool.
+    /// The three buffers: snapshot, control block, pool.
     pub fn buffers(&self) -> (&[u8], &[u8], &[u8]) {
         (self.snapshot, self.control, self.pool)
     }
 
-    /// Gives the three buffers back: snapshot, control, pool.
+    /// Gives the three buffers back: snapshot, control block, pool.
     pub fn into_buffers(self) -> (&'a [u8], &'a mut [u8], &'a mut [u8]) {
         (self.snapshot, self.control, self.pool)
     }

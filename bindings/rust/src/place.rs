@@ -38,9 +38,9 @@ pub enum Place {
         /// First byte, from the snapshot's start.
         at: usize,
     },
-    /// In the control buffer.
+    /// In the control block.
     Control {
-        /// First byte, from the control buffer's start.
+        /// First byte, from the control block's start.
         at: usize,
     },
     /// Nowhere: every byte reads as 0.

@@ -14,11 +14,11 @@ use std::fmt;
 #[repr(u8)]
 #[derive(Clone, Copy, Debug, PartialEq, Eq, Hash)]
 pub enum Refusal {
-    /// A buffer's length, a header, an account entry or the control buffer breaks the layout.
+    /// A buffer's length, a header, an account entry or the control block breaks the layout.
     Invalid = 1,
     /// The size is not 1, 2, 4 or 8, or the span not 1 to 4,096 bytes.
     BadRequest = 2,
-    /// The address has one of its upper 16 bits set, or a byte asked for is not present.
+    /// The address has one of its upper 16 bits set, its offset was to be 2^24 or more, or a byte asked for is not present.
     OutOfRange = 3,
     /// No segment has this type and index, or there is no such account or program.
     NoSegment = 4,
@@ -70,7 +70,7 @@ impl Refusal {
     /// What was wrong, for a person to read.
     pub const fn sentence(self) -> &'static str {
         match self {
-            Refusal::Invalid => "a buffer, header, account entry or the control buffer is not valid",
+            Refusal::Invalid => "a buffer, header, account entry or the control block is not valid",
             Refusal::BadRequest => "the kind of access is unknown or its length is not allowed",
             Refusal::OutOfRange => "the address has more than 48 bits or a byte of the access is not present",
             Refusal::NoSegment => "there is no such segment, account or program",

@@ -34,7 +34,7 @@ impl Host {
         ];
         let numbers = accounts.map(|account| builder.account(account));
         assert_eq!(numbers, [PROGRAM, FOREIGN, READ_ONLY, ABSENT, CALLEE, SLOTS]);
-        // A begin leaves the pool alone and overwrites the control buffer: neither needs to be clean.
+        // A begin leaves the pool alone and overwrites the control block: neither needs to be clean.
         Host { snapshot: builder.build().unwrap(), control: vec![0xCC; control_len(frames)], pool: vec![0xCC; pool_len(frames)], slots }
     }
 

@@ -1,6 +1,6 @@
 //! The replay of document 01: plain copies of the accounts' data and a set of touched pages. It is fed the snapshot, each call's other
-//! arguments except control and pool, and whether the call was accepted. It knows nothing of frames, so it checks the library by
-//! another way than the model.
+//! arguments except control block and pool, and whether the call was accepted. It knows nothing of frames, so it checks the library
+//! by another way than the model.
 
 use std::collections::BTreeSet;
 
