@@ -6,8 +6,8 @@ use mathlib.Core.Bool.{true, false}
 use mathlib.Core.List.{List, _++_, map}
 use native.Mathlib.Omega.{arith}
 use lib.Dec.{leb}
-use lib.ListN.{length, getD, take, length-map}
-use lib.Seq.{length-take-le, getD-take}
+use lib.ListN.{length, getD, take, drop, length-append, length-map}
+use lib.Seq.{length-take-le, getD-take, take-at}
 use borrow.Author.Tests.{le-leb, lt-leb}
 use Rattle.layout.specs.Control.{frameLimit}
 use Rattle.layout.specs.List.{listHeader, changeSize, pagesAt, listTotal}
@@ -31,15 +31,15 @@ use Rattle.frames.proofs.Entries.{EntryRange, entry-range}
 use Rattle.changes.specs.Keys.{copyKeys}
 use Rattle.changes.specs.Entry.{changeBytes, changeOf}
 use Rattle.changes.specs.List.{listHeaderBytes, joined, listBytes, pageBytes, changeList, listable, listCheck, changeListNumber, changeListOut}
-use Rattle.changes.specs.Copies.{codeKey, codesBelow, keyTwice, entryListable, codeEntry, codePage, ChangeFits}
+use Rattle.changes.specs.Copies.{codeKey, tableCodes, codesBelow, keyTwice, entryListable, codeEntry, codePage, ChangeFits, Gathers, Answered, Tried}
+use Rattle.changes.specs.declared.copies.Gathered.{Gathered}
+use Rattle.changes.specs.declared.list.Attempt.{Attempt}
+use Rattle.changes.specs.Sort.{sorted}
+use Rattle.changes.proofs.Sorted.{length-sorted}
 use Rattle.changes.proofs.Codes.{CopyCode, codes-copies}
 use Rattle.changes.proofs.Apart.{Apart, once-apart, code-found, keys-are}
 use Rattle.changes.proofs.Listable.{listable-all, unlistable-entry, unlistable-twice}
 use Rattle.changes.proofs.Written.{joined-images, joined-ext, length-joined, length-change, parts-written}
-
--- the number and the lent buffer are those promised
-abbrev pub Answered : List ℕ → List ℕ → List ℕ → List ℕ → ℕ → List ℕ → Type 0
-Answered s c p out n o = (n ≡ changeListNumber s c p out) × (o ≡ changeListOut s c p out)
 
 -- what the code has found out before it asks for room: the n codes, in order
 pub record Listed (s c p order : List ℕ) (n : ℕ) : Type 0 where
@@ -49,6 +49,32 @@ pub record Listed (s c p order : List ℕ) (n : ℕ) : Type 0 where
   pub codes : take n order ≡ codesBelow c (frames c)
   pub entries : every (entryListable s c) (frames c) ≡ true
   pub differ : keyTwice (take n order) ≡ false
+
+-- ---- the answers of the inner functions, by what they are
+
+-- the pass's
+pub gathered-as : (s c order : List ℕ) {r : Gathered} (q : Gathered) → r ≡ q → Gathers s c order r → Gathers s c order q
+gathered-as s c order q e g = rw e at g
+
+-- an attempt's
+pub tried-as : (s c p : List ℕ) (k : ℕ) (out : List ℕ) {r : Attempt} (q : Attempt) (o : List ℕ) → r ≡ q → Tried s c p k out r o → Tried s c p k out q o
+tried-as s c p k out q o e g = rw e at g
+
+-- ---- the copies gathered and put in order
+
+module _ (c order : List ℕ) (n : ℕ) (inside : n ≤ length order) {ys : List ℕ} (e : ys ≡ sorted (take n order)) where
+  -- there are n
+  sorted-count : length ys ≡ n
+  sorted-count = ap length e ∙ length-sorted (take n order) ∙ length-take-le n order inside
+
+  -- they stand first
+  pub sorted-inside : n ≤ length (ys ++ drop n order)
+  sorted-inside = omega (arith, length-append ys (drop n order), sorted-count)
+
+  -- and are the copies' codes
+  pub sorted-codes : take n order ≡ tableCodes c 0 (frames c) → take n (ys ++ drop n order) ≡ codesBelow c (frames c)
+  unfolding codesBelow
+  sorted-codes f = take-at ys (drop n order) n sorted-count ∙ e ∙ ap sorted f
 
 -- ---- refusals
 

@@ -1,4 +1,5 @@
-pub mod Inserted
+pub mod Sorted
+pub mod Parts
 pub mod Codes
 pub mod Apart
 pub mod Listable

@@ -1,4 +1,5 @@
 pub mod Keys
 pub mod Entry
 pub mod List
+pub mod Sort
 pub mod Copies

@@ -2,3 +2,4 @@
 pub mod copies;
 pub mod entry;
 pub mod list;
+pub mod sort;

@@ -1,12 +1,11 @@
 // The change list: header, entries in ascending order, pages.
 use super::copies::FRAME_NUMBERS;
+use super::copies::Gathered;
 use super::copies::gather;
 use super::entry::Change;
 use super::entry::put_change;
+use super::sort::sort;
 use control::buffers::buffers_valid;
-use control::header::frame_count;
-use frames::table::entry_at;
-use layout::control::COPY;
 use layout::control::FRAMES;
 use layout::list::LIST_HEADER;
 use layout::list::list_total;
@@ -16,7 +15,6 @@ use pages::Frame;
 use pages::Page;
 use pages::frame_start;
 use pages::live_bytes;
-use pages::page_there;
 use refusal::DONE;
 use refusal::Refusal;
 use refusal::number;
@@ -27,35 +25,24 @@ use words::runs::clear;
 use words::runs::copy;
 ghost use mathlib.Core.Path.{_≡_};
 ghost use mathlib.Core.Bool.{true};
-ghost use Prim.Native.Nat.{ℕ, _+_, _*_, _≤_, _<_};
+ghost use Prim.Native.Nat.{ℕ, _+_, _*_, _/_, _≤_, _<_};
 ghost use lib.ListN.{length, getD, take};
 ghost use Rattle.layout.specs.Page.{pageSize};
 ghost use Rattle.layout.specs.Control.{frameLimit};
 ghost use Rattle.layout.specs.List.{pagesAt, listTotal, listHeader, changeAt};
 ghost use Rattle.words.specs.Words.{splice};
-ghost use Rattle.choice.specs.Search.{every};
-ghost use Rattle.snapshot.specs.Header.{snapshotValid};
-ghost use Rattle.control.specs.Control.{controlValid, frames};
+ghost use Rattle.control.specs.Control.{buffersValid};
 ghost use Rattle.changes.specs.List.{listHeaderBytes, joined, changeListNumber, changeListOut};
-ghost use Rattle.changes.specs.Copies.{keyTwice, entryListable, ChangeFits, codeEntry, codePage};
+ghost use Rattle.changes.specs.Copies.{keyTwice, ChangeFits, codeEntry, codePage, Answered, fewCopies, Tried};
 
-// Whether every copy's page is listable, but for pages claimed twice.
-fn pages_listable(s: &[u8], c: &[u8]) -> bool
-    requires { ⌜ (snapshotValid (now s) ≡ true) × (controlValid (now c) ≡ true) ⌝ }
-    ensures { λ r. ⌜ r ≡ every (entryListable (now (s .entry)) (now (c .entry))) (frames (now (c .entry))) ⌝ }
-{
-    let frames = frame_count(c);
-    let mut i = 0;
-    while i < frames {
-        let e = entry_at(c, i);
-        if e.usage == COPY {
-            if page_there(s, e.account, e.page) {} else {
-                return false;
-            }
-        }
-        i += 1;
-    }
-    true
+// Up to so many copies are listed without the arrays for every frame, which take longer to fill than a page to list.
+const FEW: usize = 64;
+
+// What the list comes to with the room that is lent.
+enum Attempt {
+    Number(u8),
+    // there are more copies than room
+    More,
 }
 
 // Whether two of the n copies, which are in order, are of one page.
@@ -122,26 +109,70 @@ fn write_changes(s: &[u8], pool: &[u8], order: &[u64], n: usize, out: &mut [u8])
     }
 }
 
+// The change list, where there is room for the codes of its copies.
+fn list_with(
+    s: &[u8],
+    c: &[u8],
+    pool: &[u8],
+    order: &mut [u64],
+    room: &mut [u64],
+    out: &mut [u8],
+) -> Attempt
+    requires { ⌜ (buffersValid (now s) (now c) (now pool) ≡ true) × (length (now order) / 2 ≤ length (now room)) ⌝ }
+    ensures { λ r. ⌜ Tried (now (s .entry)) (now (c .entry)) (now (pool .entry)) (length (now (order .entry))) (now (out .entry)) r (now (out .exit)) ⌝ }
+{
+    match gather(s, c, order) {
+        Gathered::Copies(n) => {
+            sort(&mut order[..n], room);
+            if claimed_twice(order, n) {
+                return Attempt::Number(number(Refusal::Invalid));
+            }
+            if out.len() < list_total(n) {
+                return Attempt::Number(number(Refusal::ShortOutput));
+            }
+            write_header(out, n);
+            write_changes(s, pool, order, n, out);
+            Attempt::Number(DONE)
+        }
+        Gathered::NotThere => Attempt::Number(number(Refusal::Invalid)),
+        Gathered::Full => Attempt::More,
+    }
+}
+
+// The change list of a few copies.
+fn list_few(s: &[u8], c: &[u8], pool: &[u8], out: &mut [u8]) -> Attempt
+    requires { ⌜ buffersValid (now s) (now c) (now pool) ≡ true ⌝ }
+    ensures { λ r. ⌜ Tried (now (s .entry)) (now (c .entry)) (now (pool .entry)) fewCopies (now (out .entry)) r (now (out .exit)) ⌝ }
+{
+    let mut order = [0u64; FEW];
+    let mut room = [0u64; FEW / 2];
+    list_with(s, c, pool, &mut order, &mut room, out)
+}
+
+// The change list of any number of copies. There are never more than there is room for.
+fn list_many(s: &[u8], c: &[u8], pool: &[u8], out: &mut [u8]) -> u8
+    requires { ⌜ buffersValid (now s) (now c) (now pool) ≡ true ⌝ }
+    ensures { λ r. ⌜ Answered (now (s .entry)) (now (c .entry)) (now (pool .entry)) (now (out .entry)) r (now (out .exit)) ⌝ }
+{
+    let mut order = [0u64; FRAMES];
+    let mut room = [0u64; FRAMES / 2];
+    match list_with(s, c, pool, &mut order, &mut room, out) {
+        Attempt::Number(n) => n,
+        Attempt::More => number(Refusal::Invalid),
+    }
+}
+
 // Writes the change list into the lent buffer, from its start; bytes past the list's total stay.
 pub fn change_list(s: &[u8], c: &[u8], pool: &[u8], out: &mut [u8]) -> u8
     ensures { λ r. ⌜ r ≡ changeListNumber (now (s .entry)) (now (c .entry)) (now (pool .entry)) (now (out .entry)) ⌝ }
     ensures { λ _. ⌜ now (out .exit) ≡ changeListOut (now (s .entry)) (now (c .entry)) (now (pool .entry)) (now (out .entry)) ⌝ }
 {
     if buffers_valid(s, c, pool) {
-        if pages_listable(s, c) {
-            let mut order = [0u64; FRAMES];
-            let n = gather(c, &mut order);
-            if claimed_twice(&order, n) {
-                return number(Refusal::Invalid);
-            }
-            if out.len() < list_total(n) {
-                return number(Refusal::ShortOutput);
-            }
-            write_header(out, n);
-            write_changes(s, pool, &order, n, out);
-            return DONE;
+        match list_few(s, c, pool, out) {
+            Attempt::Number(n) => n,
+            Attempt::More => list_many(s, c, pool, out),
         }
-        return number(Refusal::Invalid);
+    } else {
+        number(Refusal::Invalid)
     }
-    number(Refusal::Invalid)
 }

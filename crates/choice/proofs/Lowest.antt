@@ -37,6 +37,13 @@ seek-le f i zero = omega arith
 seek-le f i (suc k) =
     by-test (f i) (λ e. rw e (omega arith)) (λ e. rw e (omega (arith, seek-le f (suc i) k)))
 
+-- and at least the start
+pub seek-ge : (f : ℕ → Bool) (i k : ℕ) → i ≤ seek f i k
+unfolding seek
+seek-ge f i zero = omega arith
+seek-ge f i (suc k) =
+    by-test (f i) (λ e. rw e (omega arith)) (λ e. rw e (omega (arith, seek-ge f (suc i) k)))
+
 -- the test passes there
 pub seek-hits : (f : ℕ → Bool) (i k : ℕ) → seek f i k < i + k → f (seek f i k) ≡ true
 unfolding seek

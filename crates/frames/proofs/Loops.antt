@@ -3,15 +3,17 @@
 use Prim.Native.Nat.{ℕ, _+_, _-_, _≤_, _<_}
 use mathlib.Core.Path.{_≡_, sym, _∙_}
 use mathlib.Core.Bool.{Bool, true, false}
+use mathlib.Core.Logic.{_≢_}
 use mathlib.Core.List.{List}
 use native.Mathlib.Nat.{sub-zero}
 use native.Mathlib.Omega.{arith}
-use lib.Dec.{eqb}
 use lib.ListN.{getD}
+use borrow.Author.Tests.{eq-eqb, ne-eqb}
 use Rattle.words.specs.Words.{wordAt}
 use Rattle.choice.specs.Search.{seek, lowest}
 use Rattle.choice.proofs.Lowest.{seek-hit, seek-miss, seek-end}
-use Rattle.frames.specs.Table.{frameEntryAt, frameField, isFree}
+use Rattle.layout.specs.Control.{usageFree}
+use Rattle.frames.specs.Table.{frameEntryAt, frameEntryOf, frameField, isFree}
 
 -- a word at a field's place is the field
 pub field-is : (w o : ℕ) (c : List ℕ) (i at r : ℕ) → at ≡ frameEntryAt i + o → r ≡ wordAt w c at → r ≡ frameField w o c i
@@ -23,10 +25,16 @@ pub byte-is : (o : ℕ) (c : List ℕ) (i at : ℕ) → at ≡ frameEntryAt i + 
 unfolding wordAt
 byte-is o c i at e = field-is 1 o c i at (getD c at 0) e (omega arith)
 
--- an entry is free where its first byte is 0
-pub free-test : (c : List ℕ) (i : ℕ) → isFree c i ≡ eqb (getD c (frameEntryAt i) 0) 0
-unfolding isFree
-free-test c i = rw (byte-is 0 c i (frameEntryAt i) (omega arith))
+module _ (c : List ℕ) (i usage : ℕ) (e : usage ≡ frameEntryOf c i .usage) where
+  -- an entry whose use byte is 0 is free
+  pub free-is : usage ≡ usageFree → isFree c i ≡ true
+  unfolding isFree
+  free-is h = eq-eqb _ _ (sym e ∙ h)
+
+  -- another is not
+  pub free-fails : usage ≢ usageFree → isFree c i ≡ false
+  unfolding isFree
+  free-fails h = ne-eqb _ _ (λ d. h (e ∙ d))
 
 -- nothing is looked at yet
 pub search-start : (f : ℕ → Bool) (n : ℕ) → seek f 0 (n - 0) ≡ lowest f n

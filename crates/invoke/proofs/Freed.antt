@@ -9,8 +9,8 @@ use native.Mathlib.Decide.{decLt, ℕ-discrete}
 use native.Mathlib.Numerals.{add-one}
 use native.Mathlib.Omega.{arith}
 use lib.ListN.{length}
-use lib.Dec.{leb}
-use borrow.Author.Tests.{ne-eqb}
+use lib.Dec.{leb, eqb}
+use borrow.Author.Tests.{eq-eqb, ne-eqb}
 use Rattle.layout.specs.Control.{usageCopy}
 use Rattle.choice.specs.Choice.{pick}
 use Rattle.choice.proofs.Tests.{by-test, differ, fails}
@@ -19,6 +19,7 @@ use Rattle.control.specs.declared.shadow.Region.{Region}
 use Rattle.control.specs.declared.shadow.Region.the-variants.{Stack, Heap}
 use Rattle.pages.specs.declared.Page.{Page}
 use Rattle.frames.specs.Table.{frameEntryAt, entryEnd, frameEntryOf, freeFrameEntry, zeroEntry, usageOf, holds, claims}
+use Rattle.frames.specs.Match.{NoneOf}
 use Rattle.frames.specs.declared.table.FrameEntry.{FrameEntry}
 use Rattle.frames.specs.declared.finding.Claim.the-variants.{Copy}
 use Rattle.frames.proofs.Entries.{zero-range, entry-same, entry-other}
@@ -51,6 +52,16 @@ module _ (d : ℕ) (c : List ℕ) (n : ℕ) {x : List ℕ} (h : x ≡ freedBelow
   pub turn-kept : leaves d (frameEntryOf x n) ≡ false → x ≡ freedBelow d c (n + 1)
   unfolding freedBelow freeLeaving
   turn-kept e = rw (add-one n, ← h, e)
+
+-- a run of k entries from n on, none of a region: all stay
+pub run-kept : (d : ℕ) (c : List ℕ) (n : ℕ) {x : List ℕ} → x ≡ freedBelow d c n → (k : ℕ)
+    → ((q : Region) → NoneOf (λ j. eqb (frameEntryOf x j .usage) (usageOf q)) n k) → x ≡ freedBelow d c (n + k)
+run-kept d c n h zero none = let e : n + zero ≡ n = omega arith in rw e h
+run-kept d c n {x} h (suc k) none =
+    let e : n + suc k ≡ n + k + 1 = omega arith in
+    rw e
+    (turn-kept d c (n + k) (run-kept d c n h k (λ q j l m. none q j l (omega arith)))
+    (leaves-other d (frameEntryOf x (n + k)) (λ q u. differ _ (eq-eqb _ _ u) (none q (n + k) (omega arith) (omega arith)))))
 
 -- ---- the step at entry n
 

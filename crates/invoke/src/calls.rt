@@ -9,6 +9,8 @@ use control::shadow::clear_invocation;
 use control::shadow::invocation_at;
 use control::shadow::put_invocation;
 use control::shadow::read_registers;
+use frames::finding::group_may_hold_regions;
+use frames::search::GROUP;
 use frames::table::entry_at;
 use frames::table::free_frame_entry;
 use frames::table::usage_at;
@@ -24,11 +26,12 @@ use refusal::number;
 use snapshot::accounts::Account;
 ghost use mathlib.Core.Path.{_≡_};
 ghost use mathlib.Core.Bool.{true};
-ghost use Prim.Native.Nat.{_≤_, _<_};
+ghost use mathlib.Core.List.{List};
+ghost use Prim.Native.Nat.{ℕ, _≤_};
 ghost use lib.ListN.{length};
 ghost use Rattle.layout.specs.Control.{frameLimit};
 ghost use Rattle.control.specs.Control.{controlValid, frames};
-ghost use Rattle.frames.specs.Table.{frameEntryOf, entryEnd};
+ghost use Rattle.frames.specs.Table.{frameEntryAt, frameEntryOf, entryEnd};
 ghost use Rattle.invoke.specs.Invoke.{callCheck, callNumber, callControl, returnCheck, returnNumber, returnControl, returnOut, leaves, freedBelow};
 
 // The tests of a call, in order.
@@ -103,19 +106,34 @@ fn leaves_at(c: &[u8], i: usize, depth: usize) -> bool
     false
 }
 
-// Frees every stack and heap frame whose tag is at or above the depth, in one pass.
+// Frees those of the entries from `from` on and below `to` that leave, one by one. Where those below `from` are done, all below `to` are.
+fn free_within(c: &mut [u8], from: usize, to: usize, depth: usize)
+    requires { ⌜ (from ≤ to) × (to ≤ frameLimit) × (frameEntryAt to ≤ length (now c)) ⌝ }
+    ensures { λ _. ⌜ ((c₀ : List ℕ) → now (c .entry) ≡ freedBelow depth c₀ from → now (c .exit) ≡ freedBelow depth c₀ to) ⌝ }
+{
+    let mut i = from;
+    while i < to {
+        if leaves_at(c, i, depth) {
+            free_frame_entry(c, Frame(i as u16));
+        }
+        i += 1;
+    }
+}
+
+// Frees every stack and heap frame whose tag is at or above the depth, in one pass. A group without a stack or heap frame is passed over.
 fn free_leaving(c: &mut [u8], depth: usize)
     requires { ⌜ controlValid (now c) ≡ true ⌝ }
     ensures { λ _. ⌜ now (c .exit) ≡ freedBelow depth (now (c .entry)) (frames (now (c .entry))) ⌝ }
 {
     let frames = frame_count(c);
     let mut i = 0;
-    while i < frames {
-        if leaves_at(c, i, depth) {
-            free_frame_entry(c, Frame(i as u16));
+    while i + GROUP <= frames {
+        if group_may_hold_regions(c, i) {
+            free_within(c, i, i + GROUP, depth);
         }
-        i += 1;
+        i += GROUP;
     }
+    free_within(c, i, frames, depth);
 }
 
 // Returns from the current invocation, handing its registers back.

@@ -1,4 +1,3 @@
-pub mod Between
 pub mod Pages
 pub mod Grown
 pub mod Shrunk

@@ -9,12 +9,13 @@ use native.Mathlib.Decide.{ℕ-discrete}
 use native.Mathlib.Omega.{arith}
 use lib.ListN.{length}
 use Rattle.choice.proofs.Tests.{fails}
+use Rattle.choice.proofs.Every.{every-at}
 use Rattle.snapshot.specs.declared.accounts.Account.{Account}
 use Rattle.control.specs.Control.{controlValid}
 use Rattle.control.specs.declared.shadow.Region.{Region}
 use Rattle.pages.specs.declared.Frame.{Frame}
 use Rattle.pages.specs.declared.Page.{Page}
-use Rattle.frames.specs.Table.{entryEnd, frameEntryOf, zeroEntry, holds, claims, isFound}
+use Rattle.frames.specs.Table.{entryEnd, frameEntryOf, zeroEntry, holds, claims}
 use Rattle.frames.specs.declared.table.FrameEntry.{FrameEntry}
 use Rattle.frames.specs.declared.finding.Claim.the-variants.{Copy}
 use Rattle.frames.specs.declared.finding.Found.{Found}
@@ -22,8 +23,7 @@ use Rattle.frames.specs.declared.finding.Found.the-variants.{At, Nothing}
 use Rattle.frames.proofs.Entries.{entry-other, entry-same, zero-range}
 use Rattle.frames.proofs.OnlyTable.{OnlyTable, table-same, table-put, table-then}
 use Rattle.frames.proofs.Claims.{claims-holds, claims-copy, claims-page, frame-found}
-use Rattle.regions.specs.Resize.{pageAt, pageFrame, mayLeave, allHeld, allLeave, freeFound, shrunk}
-use Rattle.regions.proofs.Between.{between-at}
+use Rattle.regions.specs.Resize.{pageAt, pageFrame, mayLeave, allLeave, freeFound, shrunk}
 use Rattle.regions.proofs.Pages.{usage-no-copy, entry-inside, claims-ext}
 
 -- ---- what is found
@@ -73,17 +73,12 @@ pub record Among (c : List ℕ) (r : Region) (k n i : ℕ) : Type 0 where
   pub found : FoundAt (pageFrame c r (k + at)) i
 
 module _ (c : List ℕ) (r : Region) (k : ℕ) where
-  -- page j is one of those from the k-th on, below the m-th
-  module _ (m j : ℕ) (l : k ≤ j) (b : j < m) where
-    -- where each of them has a frame, it has one
-    pub held-between : allHeld c r k (m - k) ≡ true → isFound (pageFrame c r j) ≡ true
-    unfolding allHeld
-    held-between = between-at (λ i. isFound (pageFrame c r i)) k j l m b
-
-    -- where none of them has a tag below the depth, it has not
-    pub leave-between : allLeave c r k (m - k) ≡ true → mayLeave c (pageFrame c r j) ≡ true
-    unfolding allLeave
-    leave-between = between-at (λ i. mayLeave c (pageFrame c r i)) k j l m b
+  -- where none of the pages up to the m-th has a tag below the depth, page j of those has not
+  pub leave-between : (m j : ℕ) → k ≤ j → j < m → allLeave c r k (m - k) ≡ true → mayLeave c (pageFrame c r j) ≡ true
+  unfolding allLeave
+  leave-between m j l b h =
+      let place : k + (j - k) ≡ j = omega arith in
+      rw place at (every-at (λ i. mayLeave c (pageFrame c r (k + i))) (m - k) (j - k) h (omega arith))
 
   -- nothing but the frame table changes
   pub shrunk-only : (n : ℕ) → OnlyTable c (shrunk c r k n)

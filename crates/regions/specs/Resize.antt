@@ -1,5 +1,5 @@
 -- Document 01, "Begin, call, return, resize": resize. Assumes nothing.
-use Prim.Native.Nat.{ℕ, zero, suc, _+_, _-_, _<_}
+use Prim.Native.Nat.{ℕ, zero, suc, _+_, _-_, _≤_, _<_}
 use mathlib.Core.Path.{_≡_}
 use mathlib.Core.Bool.{Bool, true}
 use mathlib.Core.List.{List}
@@ -8,19 +8,19 @@ use lib.Dec.{ltb, leb, eqb}
 use Rattle.layout.specs.Page.{pageSize, pageLimit}
 use Rattle.words.specs.Words.{splice, zeros}
 use Rattle.choice.specs.Choice.{pick, either}
-use Rattle.choice.specs.Search.{lowest, every}
+use Rattle.choice.specs.Search.{every}
 use Rattle.refusal.specs.Numbers.{done}
 use Rattle.refusal.specs.Checks.{need, _then_, checkNumber, orKeep}
 use Rattle.refusal.specs.declared.Check.{Check}
 use Rattle.refusal.specs.declared.Check.the-variants.{Pass, Stop}
 use Rattle.refusal.specs.declared.Refusal.the-variants.{Invalid, BadRequest, NotPermitted, NoFrame, TooManyPages}
 use Rattle.control.specs.Buffers.{Buffers}
-use Rattle.control.specs.Control.{frames, invocations, depth, setPages, buffersValid, sizeOf}
+use Rattle.control.specs.Control.{invocations, depth, setPages, buffersValid, sizeOf}
 use Rattle.control.specs.declared.shadow.Region.{Region}
 use Rattle.control.specs.declared.shadow.Region.the-variants.{Stack, Heap}
 use Rattle.pages.specs.declared.Page.{Page}
 use Rattle.pages.specs.Pages.{frameStart}
-use Rattle.frames.specs.Table.{frameEntryOf, putFrameEntry, freeFrameEntry, usageOf, claims, frameOf, freeFrame, freeCount, isFound}
+use Rattle.frames.specs.Table.{frameEntryOf, putFrameEntry, freeFrameEntry, usageOf, frameOf, freeFrame, freeCount, isFound}
 use Rattle.frames.specs.declared.table.FrameEntry.{FrameEntry}
 use Rattle.frames.specs.declared.finding.Claim.the-variants.{Anonymous}
 use Rattle.frames.specs.declared.finding.Found.{Found}
@@ -149,7 +149,7 @@ orRefused (Stop r) c p o = record { number = checkNumber (Stop r); after = recor
 unfoldable pub resizeOf : List ℕ → List ℕ → List ℕ → ℕ → ℕ → Resized
 resizeOf s c p code n = orRefused (resizeCheck s c p code n) c p (resizeTo c p (regionOf code) n)
 
--- the frame of each page of a region, as a list: the lowest entry that claims it, the frame count where none does
-pub record FramesOf (c : List ℕ) (r : Region) (t : List ℕ) : Type 0 where
-  pub size : length t ≡ pageLimit
-  pub each : (k : ℕ) → k < pageLimit → getD t k 0 ≡ lowest (claims c (Anonymous r (record { 0 = k }))) (frames c)
+-- the frames of the n pages from the k-th on, as a list: each page has one, and the list has it at the page's place
+pub record FramesOf (c : List ℕ) (r : Region) (k n : ℕ) (t : List ℕ) : Type 0 where
+  pub size : n ≤ length t
+  pub each : (j : ℕ) → j < n → pageFrame c r (k + j) ≡ At (record { 0 = getD t j 0 })

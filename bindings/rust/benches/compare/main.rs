@@ -1,14 +1,23 @@
-//! Each operation of the library against the same in safe Rust, and the bulk operations against a plain copy of the same bytes.
+//! Each operation of the library against the same in safe Rust, the bulk operations against a plain copy of the same bytes, and the search
+//! of the frame table alone.
 //!
-//! `cargo bench --offline` prints two tables: nanoseconds a call, medians of batches run in turns, and their ratio. Words given after `--`
-//! choose the rows whose names hold one of them.
+//! `cargo bench --offline` prints a table for each: nanoseconds a call, medians of batches run in turns, and their ratio. Words given after
+//! `--` choose the rows whose names hold one of them.
 
 mod bulk;
 mod library;
-mod plain;
+mod plain_access;
 mod plain_address;
-mod plain_bulk;
+mod plain_apply;
+mod plain_headers;
+mod plain_invocations;
+mod plain_lists;
+mod plain_place;
+mod plain_resize;
+mod plain_search;
+mod plain_view;
 mod plain_words;
+mod searches;
 mod single;
 mod table;
 mod timing;
@@ -26,6 +35,8 @@ fn main() {
     bulk::copies(&mut report);
     bulk::resizes(&mut report);
     bulk::lists(&mut report);
+    report.mean();
     report.heading("against a plain copy of the same bytes", "copy");
     bulk::against_copy(&mut report);
+    searches::alone(&mut report);
 }

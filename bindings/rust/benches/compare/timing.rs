@@ -1,5 +1,6 @@
-//! Side by side: two ways to do one thing, timed in turns so that both see the same machine, and their medians.
+//! Side by side: two ways to do one thing to the same bytes, timed in turns so that both see the same machine, and their medians.
 
+use std::hint::black_box;
 use std::time::Instant;
 
 /// Rounds of a comparison: in each, both sides run one batch.
@@ -17,11 +18,18 @@ impl Compared {
     pub fn ratio(&self) -> f64 {
         self.library / self.other
     }
+
+    /// What is left of both without something else.
+    pub fn without(&self, base: &Compared) -> Compared {
+        Compared { library: self.library - base.library, other: self.other - base.other }
+    }
 }
 
-fn batch(n: usize, run: &mut dyn FnMut(usize)) -> f64 {
+fn batch<T, R>(n: usize, state: &mut T, act: &mut impl FnMut(&mut T) -> R) -> f64 {
     let start = Instant::now();
-    run(n);
+    for _ in 0..n {
+        black_box(act(black_box(&mut *state)));
+    }
     start.elapsed().as_nanos() as f64 / n as f64
 }
 
@@ -30,27 +38,19 @@ fn median(mut times: Vec<f64>) -> f64 {
     times[times.len() / 2]
 }
 
-/// Times both sides. Each closure does its operation as often as it is told; the loop is inside, so that the call through the
-/// closure does not count.
-pub fn compare(library: &mut dyn FnMut(usize), other: &mut dyn FnMut(usize)) -> Compared {
-    let once = batch(64, library).max(batch(64, other)).max(0.5);
+/// Times both sides, each as often as it takes for a batch.
+pub fn compare<T, R, Q>(state: &mut T, mut library: impl FnMut(&mut T) -> R, mut other: impl FnMut(&mut T) -> Q) -> Compared {
+    let once = batch(64, state, &mut library).max(batch(64, state, &mut other)).max(0.5);
     let n = ((BATCH_NANOS / once) as usize).clamp(1, 1_000_000);
     let (mut left, mut right) = (Vec::new(), Vec::new());
     for round in 0..ROUNDS {
         if round % 2 == 0 {
-            left.push(batch(n, library));
-            right.push(batch(n, other));
+            left.push(batch(n, state, &mut library));
+            right.push(batch(n, state, &mut other));
         } else {
-            right.push(batch(n, other));
-            left.push(batch(n, library));
+            right.push(batch(n, state, &mut other));
+            left.push(batch(n, state, &mut library));
         }
     }
     Compared { library: median(left), other: median(right) }
-}
-
-/// Does a thing so often, and keeps what it gives from being dropped by the compiler.
-pub fn repeat<T>(n: usize, mut act: impl FnMut() -> T) {
-    for _ in 0..n {
-        let _ = std::hint::black_box(act());
-    }
 }

@@ -5,14 +5,14 @@ use crate::plain_words::{put_u16, put_u32};
 use hekthumar::{control_len, pool_len};
 
 pub const SLOTS_PAGES: usize = 1024;
-const PAGE: usize = 4096;
+pub const PAGE: usize = 4096;
 const CODE: usize = 65_536;
 const ACCOUNTS: usize = 2;
 const CONTEXTS: usize = 4;
 const TRANSACTION: usize = 4096;
 
 /// The three buffers.
-#[derive(Clone)]
+#[derive(Clone, PartialEq)]
 pub struct World {
     pub s: Vec<u8>,
     pub c: Vec<u8>,

@@ -1,87 +1,72 @@
--- `regions::shrink::free_pages` meets its contract. The loop's invariant: the frames of the pages before k are freed. Each page has a
--- frame, which the list has at the page's number. Assumes nothing.
-use Prim.Native.Nat.{ℕ, suc, _+_, _-_, _≤_}
-use mathlib.Core.Path.{_≡_, sym, ap, _∙_}
+-- `regions::shrink::free_pages` meets its contract. The loop's invariant: the frames of the first j pages are freed. Assumes nothing.
+use Prim.Native.Nat.{ℕ, _+_, _-_, _≤_}
+use mathlib.Core.Path.{_≡_, refl, sym, ap, _∙_}
 use mathlib.Core.List.{List}
+use native.Mathlib.Numerals.{add-one}
 use native.Mathlib.Omega.{arith}
-use lib.ListN.{length, getD}
+use lib.ListN.{length}
 use Rattle.control.specs.declared.shadow.Region.{Region}
 use Rattle.frames.specs.Table.{freeFrameEntry}
-use Rattle.regions.specs.Resize.{pageFrame, freeFound, shrunk}
-use Rattle.regions.proofs.Pages.{entry-inside}
+use Rattle.regions.specs.Resize.{FramesOf, pageFrame, freeFound, shrunk}
 use Rattle.regions.proofs.Shrunk.{FoundAt, shrunk-only}
-use Rattle.regions.proofs.Listed.{Framed, framed, listed-below}
+use Rattle.regions.proofs.Listed.{listed-inside}
 use Rattle.regions.proofs.shrink.free_pages.Statement.{statement}
 use Rattle.regions.proofs.shrink.free_pages.Tie as tie
 
 -- no page is freed yet
-start : (c : List ℕ) (r : Region) (pages : ℕ) → c ≡ shrunk c r pages (pages - pages)
+start : (c : List ℕ) (r : Region) (k : ℕ) → c ≡ shrunk c r k 0
 unfolding shrunk
-start c r pages = let e : pages - pages ≡ 0 = omega arith in rw e
+start c r k = refl
 
-module _ (c₀ : List ℕ) (r : Region) (pages k : ℕ) (c : List ℕ) (now : c ≡ shrunk c₀ r pages (k - pages)) where
+module _ (c₀ : List ℕ) (r : Region) (k j : ℕ) (c : List ℕ) (now : c ≡ shrunk c₀ r k j) where
   -- the length stays
   same : length c ≡ length c₀
-  same = rw now (shrunk-only c₀ r pages (k - pages) .size)
+  same = rw now (shrunk-only c₀ r k j .size)
 
-  -- frame i of page k is freed
-  turn : pages ≤ k → (i : ℕ) → FoundAt (pageFrame c₀ r k) i → (c′ : List ℕ) → c′ ≡ freeFrameEntry c i → c′ ≡ shrunk c₀ r pages (k + 1 - pages)
+  -- frame i of the next page is freed
+  turn : (i : ℕ) → FoundAt (pageFrame c₀ r (k + j)) i → (c′ : List ℕ) → c′ ≡ freeFrameEntry c i → c′ ≡ shrunk c₀ r k (j + 1)
   unfolding shrunk
-  turn from i at c′ e =
-      let e₁ : k + 1 - pages ≡ suc (k - pages) = omega arith in
-      let e₂ : pages + (k - pages) ≡ k = omega arith in
-      rw (e₁, e₂) (e ∙ rw now (ap (λ x. freeFound (shrunk c₀ r pages (k - pages)) x) (sym at)))
+  turn i at c′ e = rw add-one (e ∙ rw now (ap (λ x. freeFound (shrunk c₀ r k j) x) (sym at)))
+
+  -- every page is
+  stop : (n : ℕ) → j ≡ n → c ≡ shrunk c₀ r k n
+  stop n e = rw (← e) now
 
 abbrev Inv-loop : tie.InvT-loop
-Inv-loop c₀ table r pages size k₀ c k = (pages ≤ k) × (k ≤ size) × (c ≡ shrunk c₀ r pages (k - pages))
+Inv-loop c₀ table pages n j₀ c j = (j ≤ n) × ((r : Region) → FramesOf c₀ r pages n table → c ≡ shrunk c₀ r pages j)
 
 abbrev μ-loop : tie.MeasureT-loop
-μ-loop c₀ table r pages size k₀ c k = size - k
+μ-loop c₀ table pages n j₀ c j = n - j
 
--- once the page is known: where the turn began, and the function
-abbrev turn-of : tie.After-page-at Inv-loop μ-loop → tie.At-loop Inv-loop μ-loop
-turn-of c = c .before .before
+-- at the loop: the function's start
+abbrev start-of : tie.At-loop Inv-loop μ-loop → tie.Start Inv-loop μ-loop
+start-of c = c .before .before .before
 
-abbrev start-of : tie.After-page-at Inv-loop μ-loop → tie.Start Inv-loop μ-loop
-start-of c = turn-of c .before .before
+-- what is freed there
+done : (c : tie.At-loop Inv-loop μ-loop) → let s = start-of c .args in c .loop .c ≡ shrunk (s .c .now) (s .r) (s .pages) (c .loop .j)
+done c = c .loop .inv .1 _ (start-of c .pre .1)
 
--- once its frame is freed: where it was known
-abbrev page-of : tie.After-free-frame-entry Inv-loop μ-loop → tie.After-page-at Inv-loop μ-loop
-page-of c = c .before .before .before .before
-
--- the frame of the page that is freed
-frame-at : (c : tie.After-page-at Inv-loop μ-loop) → Framed (start-of c .args .c .now) (start-of c .args .r) (turn-of c .loop .k) (getD (start-of c .args .table .now) (c .page-at .result .0) 0)
-frame-at c =
-    let l = turn-of c .loop in
-    let s = start-of c in
-    framed (s .pre .0 .1) (l .k) (omega arith) (c .page-at .result) (c .page-at .ensures) _ _ (l .inv .0) (c .before .loop-test .taken) (s .pre .1)
+-- once a frame is freed: where the turn began
+abbrev turn-of : tie.After-free-frame-entry Inv-loop μ-loop → tie.At-loop Inv-loop μ-loop
+turn-of c = c .before .before .before .before
 
 loop-holds : tie.Need-loop-holds Inv-loop μ-loop
-loop-holds c = (omega arith, omega arith, start _ _ _)
+loop-holds c = (omega arith, λ r f. start _ r _)
 
-page-at-requires : tie.Need-page-at-requires Inv-loop μ-loop
-page-at-requires c κs = omega arith
+mul-t11 : tie.Need-mul-t11 Inv-loop μ-loop
+mul-t11 c = omega arith
 
-cast-page : tie.Need-cast-page Inv-loop μ-loop
-cast-page c = omega arith
-
-mul-t13 : tie.Need-mul-t13 Inv-loop μ-loop
-mul-t13 c = omega arith
-
-element-copy-out-t16 : tie.Need-element-copy-out-t16 Inv-loop μ-loop
-element-copy-out-t16 c =
-    let p = c .before .before in
-    listed-below (start-of p .pre .0 .1) (turn-of p .loop .k) (omega arith) (p .page-at .result) (p .page-at .ensures)
+shared-slice-read-t13 : tie.Need-shared-slice-read-t13 Inv-loop μ-loop
+shared-slice-read-t13 c = omega arith
 
 free-frame-entry-requires : tie.Need-free-frame-entry-requires Inv-loop μ-loop
 free-frame-entry-requires c κs =
-    let p = c .before .before .before in
-    let x = entry-inside _ _ (start-of p .pre .0 .0) (frame-at p .below) in
-    let y = same _ _ _ _ _ (turn-of p .loop .inv .2) in
-    omega arith
+    let l = c .before .before .before in
+    let s = start-of l in
+    omega (arith, listed-inside (s .pre .1) (s .pre .0) (l .loop .j) (c .before .before .loop-test .taken), same _ _ _ _ _ (done l))
 
-add-k : tie.Need-add-k Inv-loop μ-loop
-add-k c = omega arith
+add-j : tie.Need-add-j Inv-loop μ-loop
+add-j c = omega arith
 
 loop-less : tie.Need-loop-less Inv-loop μ-loop
 loop-less c = omega arith
@@ -89,17 +74,14 @@ loop-less c = omega arith
 loop-again : tie.Need-loop-again Inv-loop μ-loop
 loop-again c =
     let f = c .before .before in
-    let p = page-of f in
-    let l = turn-of p .loop in
-    (omega arith, omega arith, turn _ _ _ _ _ (l .inv .2) (l .inv .0) _ (frame-at p .found) _ (f .free-frame-entry .ensures))
+    let l = turn-of f in
+    (omega arith, λ r h. turn _ r _ _ _ (l .loop .inv .1 r h) _ (h .each _ (f .before .before .before .loop-test .taken)) _ (f .free-frame-entry .ensures))
 
 same-length : tie.Need-same-length Inv-loop μ-loop
-same-length c = same _ _ _ _ _ (c .before .loop .inv .2)
+same-length c = same _ _ _ _ _ (done (c .before))
 
 returns : tie.Need-returns Inv-loop μ-loop
-returns c =
-    let e : c .before .loop .k ≡ c .before .before .before .args .size = omega arith in
-    rw e at (c .before .loop .inv .2)
+returns c = stop _ _ _ _ _ (done (c .before)) _ (omega arith)
 
 pub free-pages-spec : {M : Type 1} → statement M
 free-pages-spec =
@@ -108,12 +90,10 @@ free-pages-spec =
     Inv-loop
     μ-loop
     loop-holds
-    page-at-requires
-    cast-page
-    mul-t13
-    element-copy-out-t16
+    mul-t11
+    shared-slice-read-t13
     free-frame-entry-requires
-    add-k
+    add-j
     loop-less
     loop-again
     same-length

@@ -1,0 +1,93 @@
+//! Begin, call and return.
+
+use crate::plain_headers::{account, number, snapshot_valid, vm, PAGE, RECORD, RECORDS, TABLE};
+use crate::plain_search::{any_region, Entry, GROUP};
+use crate::plain_words::{put_u16, put_u32, u32_at};
+
+#[inline(always)]
+fn program_valid(s: &[u8], program: u16) -> Result<(), u8> {
+    let (accounts, data_at) = (u32_at(s, 0) as usize, u32_at(s, 24) as usize);
+    if program as usize >= accounts || account(s, data_at, program as usize)?.flags & 1 == 0 {
+        return Err(4);
+    }
+    Ok(())
+}
+
+#[inline(always)]
+fn try_begin(s: &[u8], c: &mut [u8], p: &[u8], program: u16) -> Result<(), u8> {
+    let frames = p.len() / PAGE;
+    if !snapshot_valid(s) || frames > 1024 || !p.len().is_multiple_of(PAGE) || c.len() != TABLE + 8 * frames {
+        return Err(1);
+    }
+    program_valid(s, program)?;
+    c.fill(0);
+    for (i, word) in [frames, 1, RECORDS, TABLE].into_iter().enumerate() {
+        put_u32(c, 4 * i, word as u32);
+    }
+    put_u16(c, RECORDS + RECORD, program);
+    Ok(())
+}
+
+#[inline(never)]
+pub fn begin(s: &[u8], c: &mut [u8], p: &[u8], program: u16) -> u8 {
+    number(try_begin(s, c, p, program))
+}
+
+#[inline(always)]
+fn try_call(s: &[u8], c: &mut [u8], p: &[u8], program: u16, registers: &[u8]) -> Result<(), u8> {
+    let v = vm(s, c, p)?;
+    let registers: &[u8; 256] = registers.try_into().map_err(|_| 2)?;
+    let (live, at) = (v.live(), v.record_at() + RECORD);
+    if live == 16 {
+        return Err(9);
+    }
+    program_valid(s, program)?;
+    let first = u64::from(program) | v.record() & 0xFFFF_FFFF_0000;
+    put_u32(c, 4, live as u32 + 1);
+    let record = &mut c[at..][..RECORD];
+    record[..8].copy_from_slice(&first.to_le_bytes());
+    record[8..].copy_from_slice(registers);
+    Ok(())
+}
+
+#[inline(never)]
+pub fn call(s: &[u8], c: &mut [u8], p: &[u8], program: u16, registers: &[u8]) -> u8 {
+    number(try_call(s, c, p, program, registers))
+}
+
+#[inline(always)]
+fn free_leaving(entries: &mut [Entry], depth: usize) {
+    for e in entries {
+        if e[0].wrapping_sub(2) < 2 && e[1] as usize >= depth {
+            *e = [0; 8];
+        }
+    }
+}
+
+#[inline(always)]
+fn try_return(s: &[u8], c: &mut [u8], p: &[u8], registers: &mut [u8]) -> Result<(), u8> {
+    let v = vm(s, c, p)?;
+    let registers: &mut [u8; 256] = registers.try_into().map_err(|_| 2)?;
+    let (depth, at) = (v.depth(), v.record_at());
+    if depth == 0 {
+        return Err(9);
+    }
+    let (head, table) = c.split_first_chunk_mut::<TABLE>().ok_or(1)?;
+    put_u32(head, 4, depth as u32);
+    let record = &mut head[at..][..RECORD];
+    registers.copy_from_slice(&record[8..]);
+    record.fill(0);
+    let (groups, rest) = table.as_chunks_mut().0.as_chunks_mut::<GROUP>();
+    for group in groups {
+        if any_region(group) {
+            free_leaving(group, depth);
+        }
+    }
+    free_leaving(rest, depth);
+    Ok(())
+}
+
+#[inline(never)]
+pub fn return_from(s: &[u8], c: &mut [u8], p: &[u8], registers: &mut [u8]) -> u8 {
+    number(try_return(s, c, p, registers))
+}
