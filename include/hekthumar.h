@@ -7,7 +7,7 @@
  *   pool      F frames of 4,096 bytes, F being 0 to 1,024
  *
  * A buffer is a pointer and a length; a null pointer with length 0 is an empty buffer. A buffer that a call writes overlaps no other buffer of
- * the call. Every function accepts every input and returns, and needs at most some 8.4 KB of stack. docs/FORMATS.md has every byte format. Each
+ * the call. Every function accepts every input and returns, and needs at most some 14 KB of stack. docs/FORMATS.md has every byte format. Each
  * function answers a number:
  *
  *    0  done                                    7  not permitted

@@ -23,9 +23,10 @@ pub struct Plan {
 }
 
 impl Plan {
-    /// History `number` of a seed: every second one is damaged, and few start from a wide world.
+    /// History `number` of a seed: every second one is damaged, and few start from a wide world or one with many frames.
     pub fn new(seed: u64, number: u64) -> Plan {
         let size = match number % 64 {
+            14 | 15 => Size::SomeFrames,
             30 | 31 => Size::Wide,
             63 => Size::TooWide,
             _ => Size::Small,

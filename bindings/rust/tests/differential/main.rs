@@ -18,6 +18,7 @@ mod lists;
 mod model;
 mod random;
 mod replay;
+mod tables;
 mod trials;
 mod world;
 

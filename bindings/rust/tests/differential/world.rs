@@ -14,6 +14,8 @@ pub enum Size {
     Wide,
     /// One more than the header may say of accounts, contexts or transaction bytes, all else agreeing.
     TooWide,
+    /// More frames than a search looks at one by one.
+    SomeFrames,
     /// An account of 2^24 bytes.
     LongAccount,
     ManyFrames,
@@ -35,6 +37,7 @@ pub fn generate(random: &Random, size: Size) -> World {
     let frames = match size {
         Size::ManyFrames => MAX_FRAMES,
         Size::TooManyFrames => MAX_FRAMES + 1,
+        Size::SomeFrames => random.choose(&[16, 17, 24, 31, 32, 33, 40, 63, 64]),
         _ => random.choose(&[0, 1, 2, 3, 4, 5, 6, 8, 10, 12]),
     };
     // "Ledger and pool may hold anything before its first begin"
