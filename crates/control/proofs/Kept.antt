@@ -7,12 +7,12 @@ use mathlib.Core.Logic.{_⊎_, inl, inr, ⊎-elim}
 use mathlib.Core.List.{List}
 use native.Mathlib.Omega.{arith}
 use lib.ListN.{length, getD}
-use Rattle.layout.specs.Control.{shadowAt, shadowSize, tableAt, registersSize}
+use Rattle.layout.specs.Control.{shadowAt, shadowSize, tableAt}
 use Rattle.words.specs.Words.{wordAt, bytesAt, splice}
 use Rattle.words.proofs.Splice.{length-splice, splice-before, splice-behind}
 use Rattle.words.proofs.Word.{word-ext}
 use Rattle.words.proofs.Run.{bytesAt-ext}
-use Rattle.control.specs.Control.{invocations, recordAt, invocationOf, registersOf, current, controlValid, currentValid, buffersValid}
+use Rattle.control.specs.Control.{invocations, recordAt, invocationOf, current, controlValid, currentValid, buffersValid}
 use Rattle.control.proofs.Facts.{ControlFacts, BuffersFacts, control-facts, buffers-facts, buffers-valid}
 
 -- c′ is c but for bytes from lo on and below hi
@@ -58,11 +58,6 @@ module _ {lo hi : ℕ} {c c′ : List ℕ} (o : Only lo hi c c′) where
     unfolding invocationOf
     invocation-kept =
         rw (word-kept 2 (recordAt k) (inside _ _ (omega arith) (omega arith)), word-kept 2 (recordAt k + 2) (inside _ _ (omega arith) (omega arith)), word-kept 2 (recordAt k + 4) (inside _ _ (omega arith) (omega arith)))
-
-    -- its registers
-    pub registers-kept : registersOf c′ k ≡ registersOf c k
-    unfolding registersOf
-    registers-kept = run-kept registersSize (recordAt k + 8) (inside _ _ (omega arith) (omega arith))
 
   -- validity, where the header lies apart
   pub valid-kept : shadowAt ≤ lo → controlValid c′ ≡ controlValid c

@@ -1,5 +1,5 @@
 -- The laws of free frames: which is handed out next, and how many there are before and after a write. A count of the entries
--- that pass a test, whichever, goes up or down by one with the entry that is written. Assumes nothing.
+-- that pass a test, whichever, goes down by one where the entry that is written no longer passes. Assumes nothing.
 use mathlib.Core.Path.{_≡_, ap, _∙_}
 use mathlib.Core.Bool.{Bool, true, false}
 use mathlib.Core.Logic.{_≢_}
@@ -8,7 +8,7 @@ use Prim.Native.Nat.{ℕ, suc, _≤_, _<_}
 use lib.ListN.{length}
 use borrow.Author.Tests.{ne-eqb}
 use Rattle.choice.specs.Search.{lowest, count}
-use Rattle.choice.proofs.Counting.{count-some, count-more, count-less}
+use Rattle.choice.proofs.Counting.{count-some, count-less}
 use Rattle.control.specs.Control.{frames}
 use Rattle.pages.specs.declared.Frame.{Frame}
 use Rattle.frames.specs.Table.{entryEnd, frameEntryOf, putFrameEntry, isFree, freeFrame, freeCount}
@@ -40,12 +40,6 @@ abbrev pub tally : (FrameEntry → Bool) → List ℕ → ℕ → ℕ
 tally t c n = count (λ j. t (frameEntryOf c j)) n
 
 module _ (c : List ℕ) (i : ℕ) (e : FrameEntry) (r : EntryRange e) (l : entryEnd i ≤ length c) (t : FrameEntry → Bool) (n : ℕ) where
-  -- only the new entry passes: one more
-  pub tally-taken : i < n → t (frameEntryOf c i) ≡ false → t e ≡ true → tally t (putFrameEntry c i e) n ≡ suc (tally t c n)
-  tally-taken h o p =
-      count-more (λ j. t (frameEntryOf c j)) (λ j. t (frameEntryOf (putFrameEntry c i e) j)) n i h o
-      (ap t (entry-same c i e r l) ∙ p) (λ j m. ap t (entry-other c i e j m))
-
   -- only the old entry passes: one less
   pub tally-lost : i < n → t (frameEntryOf c i) ≡ true → t e ≡ false → suc (tally t (putFrameEntry c i e) n) ≡ tally t c n
   tally-lost h o p =

@@ -53,9 +53,6 @@ pub fn wanted_by_groups(c: &[u8], from: usize, frames: usize, n: usize) -> usize
     let mut left = n;
     let mut i = from;
     while i + GROUP <= frames {
-        if left == 0 {
-            return left;
-        }
         let found = free_in_group(c, i);
         if left <= found {
             return 0;

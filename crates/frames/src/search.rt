@@ -20,7 +20,7 @@ const FIRST: usize = 8;
 
 // Whether one of the entries of a group, from i on, may match. Each difference from what is wanted, less 1, has its top bit where it was 0; all
 // are or-ed and none ends the loop, so that it is compiled to vector instructions. Of bits in a mask below the top one this is exact.
-pub fn group_may(c: &[u8], i: usize, mask: u64, wanted: u64) -> bool
+fn group_may(c: &[u8], i: usize, mask: u64, wanted: u64) -> bool
     requires { ⌜ (i + groupSize ≤ frameLimit) × (frameEntryAt (i + groupSize) ≤ length (now c)) ⌝ }
     ensures { λ r. ⌜ (r ≡ false → NoneOf (matches (now (c .entry)) mask wanted) i groupSize) ⌝ }
 {

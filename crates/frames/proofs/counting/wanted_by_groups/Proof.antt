@@ -23,21 +23,13 @@ loop-holds c = omega arith
 add-loop : tie.Need-add-loop Inv-loop μ-loop
 add-loop c = omega arith
 
-returns : tie.Need-returns Inv-loop μ-loop
-returns c =
-    omega (
-      arith,
-      count-grows (isFree (c .before .before .before .before .args .c .now)) (c .before .before .loop .i) (c .before .before .before .before .args .frames)
-          (omega arith),
-    )
-
 free-in-group-requires : tie.Need-free-in-group-requires Inv-loop μ-loop
 free-in-group-requires c κs = omega arith
 
-returns-2 : tie.Need-returns-2 Inv-loop μ-loop
-returns-2 c =
-    let turn = c .before .before .before .before .loop in
-    let start = c .before .before .before .before .before .before in
+returns : tie.Need-returns Inv-loop μ-loop
+returns c =
+    let turn = c .before .before .before .loop in
+    let start = c .before .before .before .before .before in
     omega (
       arith,
       c .before .free-in-group .ensures,
@@ -59,8 +51,8 @@ loop-again c = (omega arith, omega arith, omega (arith, c .before .free-in-group
 wanted-after-requires : tie.Need-wanted-after-requires Inv-loop μ-loop
 wanted-after-requires c κs = (omega arith, omega arith, omega arith)
 
-returns-3 : tie.Need-returns-3 Inv-loop μ-loop
-returns-3 c =
+returns-2 : tie.Need-returns-2 Inv-loop μ-loop
+returns-2 c =
     let start = c .before .before .before .before in
     omega (
       arith,
@@ -77,12 +69,11 @@ wanted-by-groups-spec =
     μ-loop
     loop-holds
     add-loop
-    returns
     free-in-group-requires
-    returns-2
+    returns
     sub-left
     add-i
     loop-less
     loop-again
     wanted-after-requires
-    returns-3)
+    returns-2)
