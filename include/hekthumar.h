@@ -13,12 +13,13 @@
  *    0  done                                    7  not permitted
  *    1  a buffer, header, entry is not valid    8  too few free frames
  *    2  unknown kind or wrong length            9  call at 16 invocations, return at 1
- *    3  upper 16 bits set, or a byte absent    10  region above 4,096 pages
+ *    3  upper 16 bits set, offset too large    10  region above 4,096 pages
  *    4  no such segment, account or program    11  output too short
  *    5  misaligned                             12  bad change list
- *    6  crosses a 4,096 boundary
+ *    6  crosses a 4,096 boundary               13  a byte absent
  *
- * Every number but 0 changes no lent byte; a value is then 0 and a view is empty.
+ * Every number but 0 changes no lent byte; a value is then 0 and a view is empty. With 13 an access also gives the distance from its first
+ * byte to the first absent one: that many of its bytes come before it. With every other number the distance is 0.
  */
 #ifndef HEKTHUMAR_H
 #define HEKTHUMAR_H
@@ -121,12 +122,20 @@ typedef struct {
     uint8_t number;
 } hekthumar_fields;
 
+/* Of a load or a fetch. */
 typedef struct {
     uint64_t value;
+    uint16_t distance;
     uint8_t number;
 } hekthumar_value;
 
-/* A field that the place does not name is 0. */
+/* Of a store, a span load or a span store. */
+typedef struct {
+    uint16_t distance;
+    uint8_t number;
+} hekthumar_outcome;
+
+/* A field that the place does not name is 0; but where the access would be told 13, `at` is its distance. */
 typedef struct {
     uint64_t at;
     uint16_t frame;
@@ -167,16 +176,16 @@ hekthumar_value hekthumar_fetch(const uint8_t *snapshot, size_t snapshot_len, co
                                 const uint8_t *pool, size_t pool_len, uint64_t address, size_t size);
 
 /* Stores the `size` lowest bytes of a value, 1, 2, 4 or 8. */
-uint8_t hekthumar_store(const uint8_t *snapshot, size_t snapshot_len, uint8_t *control, size_t control_len, uint8_t *pool,
-                        size_t pool_len, uint64_t address, size_t size, uint64_t value);
+hekthumar_outcome hekthumar_store(const uint8_t *snapshot, size_t snapshot_len, uint8_t *control, size_t control_len, uint8_t *pool,
+                                  size_t pool_len, uint64_t address, size_t size, uint64_t value);
 
 /* Fills `out`, of 1 to 4,096 bytes. */
-uint8_t hekthumar_load_span(const uint8_t *snapshot, size_t snapshot_len, const uint8_t *control, size_t control_len,
-                            const uint8_t *pool, size_t pool_len, uint64_t address, uint8_t *out, size_t out_len);
+hekthumar_outcome hekthumar_load_span(const uint8_t *snapshot, size_t snapshot_len, const uint8_t *control, size_t control_len,
+                                      const uint8_t *pool, size_t pool_len, uint64_t address, uint8_t *out, size_t out_len);
 
 /* Stores all of `bytes`, 1 to 4,096 of them. */
-uint8_t hekthumar_store_span(const uint8_t *snapshot, size_t snapshot_len, uint8_t *control, size_t control_len, uint8_t *pool,
-                             size_t pool_len, uint64_t address, const uint8_t *bytes, size_t bytes_len);
+hekthumar_outcome hekthumar_store_span(const uint8_t *snapshot, size_t snapshot_len, uint8_t *control, size_t control_len, uint8_t *pool,
+                                       size_t pool_len, uint64_t address, const uint8_t *bytes, size_t bytes_len);
 
 /* Calls a program with 256 bytes of registers. Refusals: 1, 2, 9, 4, 1, 4. */
 uint8_t hekthumar_call(const uint8_t *snapshot, size_t snapshot_len, uint8_t *control, size_t control_len, const uint8_t *pool,
@@ -197,7 +206,7 @@ uint8_t hekthumar_change_list(const uint8_t *snapshot, size_t snapshot_len, cons
 /* Applies a change list to an account's data. Refusal: 12. */
 uint8_t hekthumar_apply(const uint8_t *list, size_t list_len, uint16_t account, uint8_t *data, size_t data_len);
 
-/* Where the live bytes of an account's page lie now. Refusals: 1, 4, 1, 3. */
+/* Where the live bytes of an account's page lie now. Refusals: 1, 4, 1, 13. */
 hekthumar_view hekthumar_page_view(const uint8_t *snapshot, size_t snapshot_len, const uint8_t *control, size_t control_len,
                                    const uint8_t *pool, size_t pool_len, uint16_t account, uint16_t page);
 

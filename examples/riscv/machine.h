@@ -44,6 +44,7 @@ struct machine {
     struct access access; /* the one under way, or the one refused */
     bool stopped;
     uint8_t number;    /* of the refusal that stopped the guest, or 0 */
+    uint16_t distance; /* with 13: from the access's first byte to the first absent one */
     uint64_t status;   /* that the guest ended with, if it was not refused */
     const char *fault; /* why the run says nothing about the guest, or NULL */
 };

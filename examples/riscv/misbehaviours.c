@@ -8,15 +8,15 @@ static const struct {
     uint8_t number;
 } trials[MISBEHAVIOURS + 1] = {
     [STORE_FOREIGN] = {"stores to another mill's account", 7},
-    [RUN_OFF_STACK] = {"recurses until the stack has no page left", 3},
+    [RUN_OFF_STACK] = {"recurses until the stack has no page left", 13},
     [LOAD_MISALIGNED] = {"loads 8 bytes at offset 4093", 5},
     [SPAN_ACROSS_PAGES] = {"asks for a span of 8 bytes to be stored at offset 4093", 6},
     [STORE_PROGRAM] = {"stores to its own program", 7},
-    [LOAD_PAST_END] = {"loads past the end of its account", 3},
+    [LOAD_PAST_END] = {"loads past the end of its account", 13},
     [LOAD_NULL] = {"loads through a null pointer", 4},
     [LOAD_UPPER_BITS] = {"loads from an address of 49 bits", 3},
     [RUN_HEAP] = {"jumps into its heap", 7},
-    [RUN_PAST_PROGRAM] = {"jumps past the end of its program", 3},
+    [RUN_PAST_PROGRAM] = {"jumps past the end of its program", 13},
 };
 
 static bool run_one(struct bytes guest, uint8_t trial, FILE *trace) {

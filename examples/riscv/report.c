@@ -2,11 +2,11 @@
 
 #include <inttypes.h>
 
-static const char *const sentences[13] = {
+static const char *const sentences[14] = {
     "done",
     "a buffer, header or entry is not valid",
     "unknown kind or wrong length",
-    "upper 16 bits set, or a byte absent",
+    "upper 16 bits set",
     "no such segment, account or program",
     "misaligned",
     "crosses a 4,096 boundary",
@@ -16,10 +16,15 @@ static const char *const sentences[13] = {
     "region above 4,096 pages",
     "output too short",
     "bad change list",
+    "a byte absent",
 };
 
+enum { ABSENT = 13 };
+
 void print_refusal(const struct machine *m) {
-    printf("  refused with %u, %s\n", (unsigned)m->number, sentences[m->number]);
+    printf("  refused with %u, %s", (unsigned)m->number, sentences[m->number]);
+    if (m->number == ABSENT) printf(": byte %u of %" PRIu64, (unsigned)m->distance, m->access.size);
+    putchar('\n');
     printf("  %s of %" PRIu64 " bytes at 0x%012" PRIx64 ", pc 0x%012" PRIx64 "\n", kind_names[m->access.kind], m->access.size,
            m->access.address, m->pc);
     puts("  the refused call has changed no byte lent to it"); /* else the run has a fault */

@@ -6,7 +6,7 @@
 
 enum { CHANGES_MAX = 16 + 4104 * FRAMES };
 
-/* Number, sentence, kind, address and pc. */
+/* Number, sentence, which byte is absent, kind, address and pc. */
 void print_refusal(const struct machine *m);
 
 /* Writes the change list to `list`, of CHANGES_MAX bytes, and prints its entries; the number of pages, or -1 on a refusal. */

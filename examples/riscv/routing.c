@@ -24,14 +24,19 @@ static void remember(const struct machine *m) {
     memcpy(&before, m->buffers, sizeof before);
 }
 
+static hekthumar_outcome outcome_of(hekthumar_value got) {
+    return (hekthumar_outcome){got.distance, got.number};
+}
+
 /* Every answer of the library to the guest passes here. */
-static bool answered(struct machine *m, struct access access, uint8_t number) {
+static bool answered(struct machine *m, struct access access, hekthumar_outcome outcome) {
     m->access = access;
-    m->number = number;
+    m->number = outcome.number;
+    m->distance = outcome.distance;
     if (m->trace != NULL)
         fprintf(m->trace, "pc %08" PRIx64 "  %-10s %013" PRIx64 "  %" PRIu64 "  value %" PRIx64 "  number %u\n", m->pc,
-                kind_names[access.kind], access.address, access.size, access.value, (unsigned)number);
-    if (number == 0) return true;
+                kind_names[access.kind], access.address, access.size, access.value, (unsigned)outcome.number);
+    if (outcome.number == 0) return true;
     machine_stop(m);
     if (memcmp(&before, m->buffers, sizeof before) != 0) machine_fault(m, "a refused call has changed a byte lent to it");
     return false;
@@ -40,30 +45,31 @@ static bool answered(struct machine *m, struct access access, uint8_t number) {
 bool route_load(struct machine *m, uint64_t address, size_t size) {
     remember(m);
     hekthumar_value got = hekthumar_load(LENT(m->buffers), address, size);
-    return answered(m, (struct access){HEKTHUMAR_LOAD, address, size, got.value}, got.number);
+    return answered(m, (struct access){HEKTHUMAR_LOAD, address, size, got.value}, outcome_of(got));
 }
 
 bool route_fetch(struct machine *m, uint64_t address, size_t size) {
     remember(m);
     hekthumar_value got = hekthumar_fetch(LENT(m->buffers), address, size);
-    return answered(m, (struct access){HEKTHUMAR_FETCH, address, size, got.value}, got.number);
+    return answered(m, (struct access){HEKTHUMAR_FETCH, address, size, got.value}, outcome_of(got));
 }
 
 bool route_store(struct machine *m, uint64_t address, size_t size, uint64_t value) {
     remember(m);
-    uint8_t number = hekthumar_store(LENT(m->buffers), address, size, value);
-    return answered(m, (struct access){HEKTHUMAR_STORE, address, size, value}, number);
+    hekthumar_outcome outcome = hekthumar_store(LENT(m->buffers), address, size, value);
+    return answered(m, (struct access){HEKTHUMAR_STORE, address, size, value}, outcome);
 }
 
-/* Translation judges any length, so that no buffer is needed for one that is refused. */
+/* Translation judges any length, so that no buffer is needed for one that is refused. Told 13, it has the distance in `at`. */
 void route_store_span(struct machine *m, uint64_t to, uint64_t from, uint64_t length) {
     uint8_t bytes[PAGE_BYTES];
     remember(m);
-    uint8_t number = hekthumar_translate(LENT(m->buffers), HEKTHUMAR_LOAD_SPAN, from, length).number;
-    if (number == 0) number = hekthumar_load_span(LENT(m->buffers), from, bytes, length);
-    if (!answered(m, (struct access){HEKTHUMAR_LOAD_SPAN, from, length, 0}, number)) return;
-    number = hekthumar_store_span(LENT(m->buffers), to, bytes, length);
-    answered(m, (struct access){HEKTHUMAR_STORE_SPAN, to, length, 0}, number);
+    hekthumar_place place = hekthumar_translate(LENT(m->buffers), HEKTHUMAR_LOAD_SPAN, from, length);
+    hekthumar_outcome outcome = {(uint16_t)place.at, place.number};
+    if (outcome.number == 0) outcome = hekthumar_load_span(LENT(m->buffers), from, bytes, length);
+    if (!answered(m, (struct access){HEKTHUMAR_LOAD_SPAN, from, length, 0}, outcome)) return;
+    outcome = hekthumar_store_span(LENT(m->buffers), to, bytes, length);
+    answered(m, (struct access){HEKTHUMAR_STORE_SPAN, to, length, 0}, outcome);
 }
 
 void compare_held(struct machine *m) {

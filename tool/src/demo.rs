@@ -48,7 +48,7 @@ fn book(session: &mut Session, out: &mut Output) -> Result<(), Failure> {
     out.line(SECOND)?;
     step(out, "store-span 0x0300_0100_1008 2222", session.store_span(slot(4104), &[34, 34]))?;
     out.line(REFUSED)?;
-    step(out, "store 0x0300_0100_1770 1 34", session.store(slot(6000), 1, 34))
+    step(out, "store-span 0x0300_0100_176f 2222", session.store_span(slot(5999), &[34, 34]))
 }
 
 /// A statement and its answer.
@@ -84,7 +84,7 @@ const SECOND: &str = "
 Customer 34 books slots 4104 and 4105. Page 1 has its copy already, so no other frame is taken.";
 
 const REFUSED: &str = "
-There is no slot 6000. A refused booking changes nothing.";
+Customer 34 asks for slots 5999 and 6000. Slot 5999 is the last. A refused booking changes nothing.";
 
 const POOL: &str = "
 One frame of four is in use, for page 1 of account 1.";

@@ -126,7 +126,8 @@ fn no_expectation_is_idle() {
     }
 }
 
-/// The line with one word of what it expects changed, for each of these words.
+/// The line with one word of what it expects changed, for each of these words. Which words may follow a number depends on it, so they go
+/// with it.
 fn alterations(line: &str) -> Vec<String> {
     let line = line.split('#').next().unwrap_or_default();
     let Some((statement, expected)) = line.split_once("=>") else {
@@ -136,6 +137,7 @@ fn alterations(line: &str) -> Vec<String> {
     let alter = |at: usize| {
         let mut words: Vec<String> = words.iter().map(|word| word.to_string()).collect();
         words[at] = other(&words[at]);
+        words.truncate(if at == 0 { 1 } else { words.len() });
         format!("{statement}=> {}", words.join(" "))
     };
     (0..words.len()).filter(|&at| !NAMES.contains(&words[at])).map(alter).collect()

@@ -1,6 +1,6 @@
 //! The three lent buffers and the calls on them.
 
-use crate::refusal::check;
+use crate::refusal::{check, check_access};
 use crate::{sys, Address, ChangeList, Kind, PagePlace, Place, Refusal, Region};
 use std::fmt;
 
@@ -15,6 +15,7 @@ pub type Registers = [u8; 256];
 /// An access is refused for the first of these reasons that holds: a buffer is not valid, the size is wrong, the address has more than
 /// 48 bits, there is no such segment or account, the account's entry is not valid, the offset is misaligned, the segment or account
 /// forbids it, it crosses a page, a byte is not present, the stack or heap page has no frame or belongs to a caller, no frame is free.
+/// Where a byte is not present, [`Refusal::Absent`] says how many bytes of the access come before it.
 ///
 /// ```
 /// use hekthumar::*;
@@ -27,11 +28,13 @@ pub type Registers = [u8; 256];
 /// let mut memory = Memory::new(&snapshot, &mut control, &mut pool);
 /// memory.begin(program)?;
 /// assert_eq!(memory.fetch(Address::program(0)?, 4)?, 0x0403_0201);
+/// // The program has 4 bytes, so 4 of these 8 are there.
+/// assert_eq!(memory.fetch(Address::program(0)?, 8), Err(Refusal::Absent { distance: 4 }));
 ///
 /// memory.resize(Region::Heap, 1)?;
 /// memory.store_u64(Address::heap(8)?, 42)?;
 /// assert_eq!(memory.load_u64(Address::heap(8)?), Ok(42));
-/// assert_eq!(memory.load_u64(Address::heap(4096)?), Err(Refusal::OutOfRange));
+/// assert_eq!(memory.load_u64(Address::heap(4096)?), Err(Refusal::Absent { distance: 0 }));
 /// # Ok::<(), Refusal>(())
 /// ```
 pub struct Memory<'a> {
@@ -90,29 +93,29 @@ impl<'a> Memory<'a> {
 
     /// Loads 1, 2, 4 or 8 bytes as a little-endian number.
     pub fn load(&self, address: Address, size: usize) -> Result<u64, Refusal> {
-        let sys::Value { value, number } = lend!(as_ptr, self, hekthumar_load(address.0, size));
-        check(number).map(|()| value)
+        let sys::Value { value, distance, number } = lend!(as_ptr, self, hekthumar_load(address.0, size));
+        check_access(sys::Outcome { distance, number }).map(|()| value)
     }
 
     /// Fetches 1, 2, 4 or 8 bytes of the current program as a little-endian number.
     pub fn fetch(&self, address: Address, size: usize) -> Result<u64, Refusal> {
-        let sys::Value { value, number } = lend!(as_ptr, self, hekthumar_fetch(address.0, size));
-        check(number).map(|()| value)
+        let sys::Value { value, distance, number } = lend!(as_ptr, self, hekthumar_fetch(address.0, size));
+        check_access(sys::Outcome { distance, number }).map(|()| value)
     }
 
     /// Stores the lowest 1, 2, 4 or 8 bytes of a value.
     pub fn store(&mut self, address: Address, size: usize, value: u64) -> Result<(), Refusal> {
-        check(lend!(as_mut_ptr, self, hekthumar_store(address.0, size, value)))
+        check_access(lend!(as_mut_ptr, self, hekthumar_store(address.0, size, value)))
     }
 
     /// Fills `out`, 1 to 4,096 bytes within one page; needs no alignment.
     pub fn load_span(&self, address: Address, out: &mut [u8]) -> Result<(), Refusal> {
-        check(lend!(as_ptr, self, hekthumar_load_span(address.0, out.as_mut_ptr(), out.len())))
+        check_access(lend!(as_ptr, self, hekthumar_load_span(address.0, out.as_mut_ptr(), out.len())))
     }
 
     /// Stores all of `bytes`, 1 to 4,096 of them within one page; needs no alignment.
     pub fn store_span(&mut self, address: Address, bytes: &[u8]) -> Result<(), Refusal> {
-        check(lend!(as_mut_ptr, self, hekthumar_store_span(address.0, bytes.as_ptr(), bytes.len())))
+        check_access(lend!(as_mut_ptr, self, hekthumar_store_span(address.0, bytes.as_ptr(), bytes.len())))
     }
 
     /// Calls a program. The new invocation starts with its caller's stack and heap: it may load from all their pages, but store only to
@@ -151,7 +154,7 @@ impl<'a> Memory<'a> {
     /// The bytes of an account's page as they stand, uncopied: a part of the snapshot, or of the pool once the page was stored to. The
     /// last page is as short as the data.
     ///
-    /// Refused with [`Refusal::NoSegment`] if there is no such account and [`Refusal::OutOfRange`] if the page has no bytes.
+    /// Refused with [`Refusal::NoSegment`] if there is no such account and [`Refusal::Absent`] if the page has no bytes.
     ///
     /// ```
     /// # use hekthumar::*;
@@ -163,7 +166,7 @@ impl<'a> Memory<'a> {
     /// # let mut memory = Memory::new(&snapshot, &mut control, &mut pool);
     /// # memory.begin(program)?;
     /// assert_eq!(memory.page_view(slots, 1)?, [7; 1_904]);
-    /// assert_eq!(memory.page_view(slots, 2), Err(Refusal::OutOfRange));
+    /// assert_eq!(memory.page_view(slots, 2), Err(Refusal::Absent { distance: 0 }));
     /// # Ok::<(), Refusal>(())
     /// ```
     pub fn page_view(&self, account: u16, page: u16) -> Result<&[u8], Refusal> {

@@ -1,6 +1,6 @@
 //! What a translation takes and answers.
 
-use crate::refusal::check;
+use crate::refusal::{check, check_access};
 use crate::{sys, Refusal};
 use std::ops::Range;
 
@@ -64,8 +64,9 @@ pub enum Place {
 }
 
 impl Place {
+    /// Where a byte is absent, `at` is the distance.
     pub(crate) fn from_raw(raw: sys::Place) -> Result<Place, Refusal> {
-        check(raw.number)?;
+        check_access(sys::Outcome { distance: raw.at as u16, number: raw.number })?;
         let at = raw.at as usize;
         Ok(match raw.place {
             1 => Place::Snapshot { at },

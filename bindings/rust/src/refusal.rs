@@ -1,5 +1,6 @@
 //! Why a call was refused.
 
+use crate::sys;
 use std::fmt;
 
 /// Why a call was refused. A refused call has changed no lent byte.
@@ -11,38 +12,42 @@ use std::fmt;
 /// assert_eq!(refusal, Refusal::OutOfRange);
 /// assert_eq!(refusal.number(), 3);
 /// ```
-#[repr(u8)]
 #[derive(Clone, Copy, Debug, PartialEq, Eq, Hash)]
 pub enum Refusal {
     /// A buffer's length, a header, an account entry or the control block breaks the layout.
-    Invalid = 1,
+    Invalid,
     /// The size is not 1, 2, 4 or 8, or the span not 1 to 4,096 bytes.
-    BadRequest = 2,
-    /// The address has one of its upper 16 bits set, its offset was to be 2^24 or more, or a byte asked for is not present.
-    OutOfRange = 3,
+    BadRequest,
+    /// The address has one of its upper 16 bits set, or its offset was to be 2^24 or more.
+    OutOfRange,
     /// No segment has this type and index, or there is no such account or program.
-    NoSegment = 4,
+    NoSegment,
     /// The offset is not a multiple of the size.
-    Misaligned = 5,
+    Misaligned,
     /// The span goes past a multiple of 4,096.
-    CrossesPage = 6,
+    CrossesPage,
     /// The segment, the account's flag or owner, or the page's invocation forbids the access.
-    NotPermitted = 7,
+    NotPermitted,
     /// More frames are needed than are free.
-    OutOfFrames = 8,
+    OutOfFrames,
     /// A call with 16 live invocations, or a return from the only one.
-    CallDepth = 9,
+    CallDepth,
     /// A stack or heap of more than 4,096 pages.
-    RegionTooLarge = 10,
+    RegionTooLarge,
     /// The change list is longer than the buffer for it.
-    OutputTooShort = 11,
+    OutputTooShort,
     /// The change list is malformed, or a page of it has another count of live bytes than the data gives that page.
-    BadChangeList = 12,
+    BadChangeList,
+    /// A byte asked for is not present.
+    Absent {
+        /// How many bytes of the access come before it; 0 for a page view.
+        distance: u16,
+    },
 }
 
 impl Refusal {
-    /// Every refusal, in the order of the numbers.
-    pub const ALL: [Refusal; 12] = [
+    /// Every refusal, in the order of the numbers; [`Refusal::Absent`] with the distance 0.
+    pub const ALL: [Refusal; 13] = [
         Refusal::Invalid,
         Refusal::BadRequest,
         Refusal::OutOfRange,
@@ -55,14 +60,29 @@ impl Refusal {
         Refusal::RegionTooLarge,
         Refusal::OutputTooShort,
         Refusal::BadChangeList,
+        Refusal::Absent { distance: 0 },
     ];
 
-    /// The number, 1 to 12, that the C interface gives back.
+    /// The number, 1 to 13, that the C interface gives back.
     pub const fn number(self) -> u8 {
-        self as u8
+        match self {
+            Refusal::Invalid => 1,
+            Refusal::BadRequest => 2,
+            Refusal::OutOfRange => 3,
+            Refusal::NoSegment => 4,
+            Refusal::Misaligned => 5,
+            Refusal::CrossesPage => 6,
+            Refusal::NotPermitted => 7,
+            Refusal::OutOfFrames => 8,
+            Refusal::CallDepth => 9,
+            Refusal::RegionTooLarge => 10,
+            Refusal::OutputTooShort => 11,
+            Refusal::BadChangeList => 12,
+            Refusal::Absent { .. } => 13,
+        }
     }
 
-    /// The refusal with this number; none for 0, which is success, and above 12.
+    /// The refusal with this number, 13 with the distance 0; none for 0, which is success, and above 13.
     pub fn from_number(number: u8) -> Option<Refusal> {
         Self::ALL.into_iter().find(|refusal| refusal.number() == number)
     }
@@ -72,7 +92,7 @@ impl Refusal {
         match self {
             Refusal::Invalid => "a buffer, header, account entry or the control block is not valid",
             Refusal::BadRequest => "the kind of access is unknown or its length is not allowed",
-            Refusal::OutOfRange => "the address has more than 48 bits or a byte of the access is not present",
+            Refusal::OutOfRange => "the address has more than 48 bits or the offset more than 24",
             Refusal::NoSegment => "there is no such segment, account or program",
             Refusal::Misaligned => "the offset is not a multiple of the access size",
             Refusal::CrossesPage => "the access crosses a page boundary",
@@ -82,22 +102,51 @@ impl Refusal {
             Refusal::RegionTooLarge => "the stack or heap would exceed 4,096 pages",
             Refusal::OutputTooShort => "the output buffer is too short for the change list",
             Refusal::BadChangeList => "the change list is malformed or does not match the account's data",
+            Refusal::Absent { .. } => "a byte asked for is not present",
+        }
+    }
+
+    /// What was wrong with an access of so many bytes, for a person to read: which of them is absent, counted from 0, else the
+    /// [sentence](Refusal::sentence).
+    ///
+    /// ```
+    /// use hekthumar::Refusal;
+    ///
+    /// assert_eq!(Refusal::Absent { distance: 5 }.explain(8), "byte 5 of 8 is past the end");
+    /// assert_eq!(Refusal::OutOfFrames.explain(8), "too few frames are free");
+    /// ```
+    pub fn explain(self, length: usize) -> String {
+        match self {
+            Refusal::Absent { distance } => format!("byte {distance} of {length} is past the end"),
+            _ => self.sentence().to_string(),
         }
     }
 }
 
 impl fmt::Display for Refusal {
     fn fmt(&self, f: &mut fmt::Formatter<'_>) -> fmt::Result {
-        write!(f, "{} (refusal {})", self.sentence(), self.number())
+        match self {
+            Refusal::Absent { distance } => write!(f, "byte {distance} of the access is past the end")?,
+            _ => f.write_str(self.sentence())?,
+        }
+        write!(f, " (refusal {})", self.number())
     }
 }
 
 impl std::error::Error for Refusal {}
 
-/// The answer of the C interface as a result.
+/// The number that a call answers, as a result.
 pub(crate) fn check(number: u8) -> Result<(), Refusal> {
     match number {
         0 => Ok(()),
-        _ => Err(Refusal::from_number(number).expect("the library answers 0 to 12")),
+        _ => Err(Refusal::from_number(number).expect("the library answers 0 to 13")),
     }
+}
+
+/// The number and the distance that an access answers, as a result.
+pub(crate) fn check_access(outcome: sys::Outcome) -> Result<(), Refusal> {
+    check(outcome.number).map_err(|refusal| match refusal {
+        Refusal::Absent { .. } => Refusal::Absent { distance: outcome.distance },
+        other => other,
+    })
 }

@@ -24,6 +24,15 @@ pub struct Fields {
 #[derive(Clone, Copy, Debug, PartialEq, Eq)]
 pub struct Value {
     pub value: u64,
+    pub distance: u16,
+    pub number: u8,
+}
+
+/// What a store, a span load or a span store answers.
+#[repr(C)]
+#[derive(Clone, Copy, Debug, PartialEq, Eq)]
+pub struct Outcome {
+    pub distance: u16,
     pub number: u8,
 }
 
@@ -103,7 +112,7 @@ extern "C" {
         address: u64,
         size: usize,
         value: u64,
-    ) -> u8;
+    ) -> Outcome;
     pub fn hekthumar_load_span(
         snapshot: *const u8,
         snapshot_len: usize,
@@ -114,7 +123,7 @@ extern "C" {
         address: u64,
         out: *mut u8,
         out_len: usize,
-    ) -> u8;
+    ) -> Outcome;
     pub fn hekthumar_store_span(
         snapshot: *const u8,
         snapshot_len: usize,
@@ -125,7 +134,7 @@ extern "C" {
         address: u64,
         bytes: *const u8,
         bytes_len: usize,
-    ) -> u8;
+    ) -> Outcome;
     pub fn hekthumar_call(
         snapshot: *const u8,
         snapshot_len: usize,

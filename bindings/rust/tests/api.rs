@@ -112,7 +112,7 @@ fn refusals_of_accesses() {
     assert_eq!(memory.load(slot(0), 3), Err(Refusal::BadRequest));
     assert_eq!(memory.load_span(slot(0), &mut []), Err(Refusal::BadRequest));
     assert_eq!(memory.load_u8(Address(1 << 48)), Err(Refusal::OutOfRange));
-    assert_eq!(memory.load_u64(slot(6_000)), Err(Refusal::OutOfRange));
+    assert_eq!(memory.load_u64(slot(6_000)), Err(Refusal::Absent { distance: 0 }));
     assert_eq!(memory.load_u8(Address(0)), Err(Refusal::NoSegment));
     assert_eq!(memory.load_u8(Address::data(SLOTS + 1, 0).unwrap()), Err(Refusal::NoSegment));
     assert_eq!(memory.load_u64(slot(4_093)), Err(Refusal::Misaligned));
@@ -137,18 +137,23 @@ fn refusals_of_other_calls() {
     assert_eq!(memory.resize(Region::Stack, 4_097), Err(Refusal::RegionTooLarge));
     assert_eq!(memory.resize(Region::Stack, 2), Err(Refusal::OutOfFrames));
     assert_eq!(memory.change_list(&mut [0; 15]), Err(Refusal::OutputTooShort));
-    assert_eq!(memory.page_view(SLOTS, 2), Err(Refusal::OutOfRange));
-    assert_eq!(memory.page_view(ABSENT, 0), Err(Refusal::OutOfRange));
+    assert_eq!(memory.page_view(SLOTS, 2), Err(Refusal::Absent { distance: 0 }));
+    assert_eq!(memory.page_view(ABSENT, 0), Err(Refusal::Absent { distance: 0 }));
     assert_eq!(apply(&[], 0, &mut []), Err(Refusal::BadChangeList));
 }
 
 #[test]
 fn refusals_have_their_numbers() {
     let numbers = Refusal::ALL.map(Refusal::number);
-    assert_eq!(numbers, [1, 2, 3, 4, 5, 6, 7, 8, 9, 10, 11, 12]);
+    assert_eq!(numbers, [1, 2, 3, 4, 5, 6, 7, 8, 9, 10, 11, 12, 13]);
     assert_eq!(numbers.map(Refusal::from_number), Refusal::ALL.map(Some));
-    assert_eq!([0, 13, 255].map(Refusal::from_number), [None; 3]);
+    assert_eq!([0, 14, 255].map(Refusal::from_number), [None; 3]);
     assert_eq!(Refusal::CrossesPage.to_string(), "the access crosses a page boundary (refusal 6)");
+    let absent = Refusal::Absent { distance: 5 };
+    assert_eq!(absent.number(), 13);
+    assert_eq!(absent.to_string(), "byte 5 of the access is past the end (refusal 13)");
+    assert_eq!(absent.explain(8), "byte 5 of 8 is past the end");
+    assert_eq!(Refusal::CrossesPage.explain(8), "the access crosses a page boundary");
 }
 
 #[test]
@@ -218,7 +223,7 @@ fn call_and_return_hand_the_registers_on() {
     let mut returned = [0; 256];
     memory.return_from(&mut returned).unwrap();
     assert_eq!(returned, registers);
-    assert_eq!(memory.load_u32(heap.offset_by(4096).unwrap()), Err(Refusal::OutOfRange));
+    assert_eq!(memory.load_u32(heap.offset_by(4096).unwrap()), Err(Refusal::Absent { distance: 0 }));
     assert_eq!(memory.load_u32(Address::data(FOREIGN, 0).unwrap()), Ok(0x0701_0101));
     memory.store_u8(heap, 1).unwrap();
 }
@@ -271,7 +276,7 @@ fn a_built_snapshot_gives_back_its_parts() {
     memory.load_span(Address::transaction(0).unwrap(), &mut transaction).unwrap();
     assert_eq!(&transaction, b"transaction");
     assert_eq!(memory.load_u64(Address::block_context(0, 0x70).unwrap()), Ok(0x0909_0909_0909_0909));
-    assert_eq!(memory.load_u8(Address::block_context(0, 0x78).unwrap()), Err(Refusal::OutOfRange));
+    assert_eq!(memory.load_u8(Address::block_context(0, 0x78).unwrap()), Err(Refusal::Absent { distance: 0 }));
     assert_eq!(memory.load_u8(Address::metadata(SLOTS, 63).unwrap()), Ok(5));
     assert_eq!(memory.fetch(Address::program(0).unwrap(), 4), Ok(0x13));
 }

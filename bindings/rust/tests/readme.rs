@@ -1,4 +1,5 @@
-//! README.md shows the examples as they are, and the one in C compiles without a warning, runs, and finds both bookings.
+//! README.md shows the examples as they are, and the one in C compiles without a warning, runs, and finds both bookings and the
+//! account's end.
 
 use std::path::{Path, PathBuf};
 use std::process::Command;
@@ -44,7 +45,8 @@ fn the_host_in_c_runs() {
     let (source, program) = (source.to_str().expect("a path in UTF-8"), host.to_str().expect("a path in UTF-8"));
     compile("cc", &["-std=c11", "-O2", source, env!("HEKTHUMAR_ARCHIVE"), "-o", program]);
     let out = Command::new(&host).output().expect("the host runs");
-    assert_eq!(String::from_utf8_lossy(&out.stdout), "refused 0, pages changed 1, bookings 11 22\n");
+    let printed = "refused 0, pages changed 1, bookings 11 22\na span past the end: refused with 13 at byte 4 of 8\n";
+    assert_eq!(String::from_utf8_lossy(&out.stdout), printed);
     assert!(out.status.success());
 }
 

@@ -5,9 +5,10 @@ use mathlib.Core.List.{List, []}
 use lib.Dec.{eqb}
 use Rattle.words.specs.Words.{bytesAt}
 use Rattle.choice.specs.Choice.{pick}
-use Rattle.refusal.specs.Numbers.{numberOf, done}
+use Rattle.refusal.specs.Numbers.{numberOf, distanceOf, done}
 use Rattle.address.specs.declared.Joined.{Joined}
 use Rattle.address.specs.declared.Fields.{Fields}
+use Rattle.translate.specs.declared.place.Outcome.{Outcome}
 use Rattle.translate.specs.declared.place.Place.{Place}
 use Rattle.translate.specs.declared.place.Place.the-variants.{InSnapshot, InControl, Zeros, InPool, Take}
 use Rattle.translate.specs.declared.place.Translation.{Translation}
@@ -20,6 +21,7 @@ use Rattle.hekthumar.specs.declared.addresses.AddressAnswer.{AddressAnsw
 use Rattle.hekthumar.specs.declared.addresses.FieldsAnswer.{FieldsAnswer}
 use Rattle.hekthumar.specs.declared.accesses.PlaceAnswer.{PlaceAnswer}
 use Rattle.hekthumar.specs.declared.accesses.ValueAnswer.{ValueAnswer}
+use Rattle.hekthumar.specs.declared.accesses.OutcomeAnswer.{OutcomeAnswer}
 use Rattle.hekthumar.specs.declared.changes_of.ViewAnswer.{ViewAnswer}
 
 -- an address and its number
@@ -30,13 +32,21 @@ addressAnswer j = record { address = j .address .0; number = j .number }
 abbrev pub fieldsAnswer : Fields → FieldsAnswer
 fieldsAnswer f = record { offset = f .offset; index = f .index; segment = f .«segment_type»; number = f .number }
 
--- a value and its number
+-- a value, with the distance and the number of its access
 abbrev pub valueAnswer : Value → ValueAnswer
-valueAnswer v = record { value = v .value; number = v .outcome .number }
+valueAnswer v = record { value = v .value; distance = v .outcome .distance; number = v .outcome .number }
 
--- the value and the number that a step gives
+-- the same of a step
 abbrev pub stepValue : Step → ValueAnswer
-stepValue x = record { value = x .answer .value; number = x .answer .number }
+stepValue x = record { value = x .answer .value; distance = x .answer .distance; number = x .answer .number }
+
+-- the distance and the number of an access without a value
+abbrev pub outcomeAnswer : Outcome → OutcomeAnswer
+outcomeAnswer o = record { distance = o .distance; number = o .number }
+
+-- the same of a step
+abbrev pub stepOutcome : Step → OutcomeAnswer
+stepOutcome x = record { distance = x .answer .distance; number = x .answer .number }
 
 -- a place: 1 in the snapshot, 2 in the control block, 3 zeros, 4 in the pool, 5 a frame that would be taken for a copy
 abbrev pub placeOf : Place → PlaceAnswer
@@ -46,10 +56,14 @@ placeOf Zeros = record { at = 0; frame = 0; account = 0; page = 0; place = 3; nu
 placeOf (InPool at) = record { at = at; frame = 0; account = 0; page = 0; place = 4; number = done }
 placeOf (Take n) = record { at = n .at; frame = n .frame .0; account = n .account .0; page = n .page .0; place = 5; number = done }
 
--- translation's answer: 0 where it is refused
+-- translation's answer: where it is refused, the refusal's distance and no place
 abbrev pub placeAnswer : Translation → PlaceAnswer
 placeAnswer (Allowed q) = placeOf q
-placeAnswer (Refused r) = record { at = 0; frame = 0; account = 0; page = 0; place = 0; number = numberOf r }
+placeAnswer (Refused r) = record { at = distanceOf r; frame = 0; account = 0; page = 0; place = 0; number = numberOf r }
+
+-- the distance that translation's answer gives, where it has no place
+abbrev pub distanceIn : PlaceAnswer → ℕ
+distanceIn x = pick (eqb (x .place) 0) (x .at) 0
 
 -- a view: 1 in the snapshot, 2 in the pool, 0 where it is refused
 abbrev pub viewAnswer : View → ViewAnswer

@@ -7,8 +7,9 @@ use Rattle.snapshot.specs.declared.accounts.Account.{Account}
 use Rattle.control.specs.Buffers.{Buffers}
 use Rattle.pages.specs.declared.Page.{Page}
 use Rattle.segments.specs.Kinds.{kindStore, kindStoreSpan}
-use Rattle.translate.specs.Place.{numberOfAnswer}
+use Rattle.translate.specs.Place.{outcomeOf}
 use Rattle.translate.specs.Translate.{translateOf}
+use Rattle.translate.specs.declared.place.Outcome.{Outcome}
 use Rattle.access.specs.Loads.{loadOf, fetchOf, loadSpanOutcome, loadSpanOut}
 use Rattle.access.specs.Stores.{storeOutcome, storeControl, storePool}
 use Rattle.invoke.specs.declared.begin.Start.{Start}
@@ -34,9 +35,10 @@ pub data Call : Type 0 where
   change-list : (out : List ℕ) → Call
   page-view : Account → Page → Call
 
--- what a call gives: its number, its value, and the bytes of its lent buffer afterwards or of its view
+-- what a call gives: its number, an access's distance, its value, and the bytes of its lent buffer afterwards or of its view
 pub record Answer : Type 0 where
   pub number : ℕ
+  pub distance : ℕ
   pub value : ℕ
   pub bytes : List ℕ
 
@@ -45,13 +47,14 @@ pub record Step : Type 0 where
   pub answer : Answer
   pub after : Buffers
 
--- a call that writes no working buffer
-abbrev pub reads : Buffers → ℕ → ℕ → List ℕ → Step
-reads b number value bytes = record { answer = record { number = number; value = value; bytes = bytes }; after = b }
+-- an access, and a translation, which answers for one: "With 13 an access also gives the distance .., else 0"
+abbrev pub accesses : Buffers → Outcome → ℕ → List ℕ → Step
+accesses after o value bytes =
+    record { answer = record { number = o .number; distance = o .distance; value = value; bytes = bytes }; after = after }
 
--- a call that writes working buffers
-abbrev pub writes : Buffers → ℕ → List ℕ → Step
-writes after number bytes = record { answer = record { number = number; value = 0; bytes = bytes }; after = after }
+-- any other call
+abbrev pub answers : Buffers → ℕ → List ℕ → Step
+answers after number bytes = record { answer = record { number = number; distance = 0; value = 0; bytes = bytes }; after = after }
 
 -- the working buffers, one by one
 abbrev pub buffers : List ℕ → List ℕ → Buffers
@@ -59,31 +62,31 @@ buffers c p = record { control = c; pool = p }
 
 -- one call: "Every call is lent the same read-only buffer, and the same two working buffers as the last call left them."
 unfoldable pub stepOf : List ℕ → Buffers → Call → Step
-stepOf s b (begin x) = writes (buffers (beginControl s (b .control) (b .pool) x) (b .pool)) (beginNumber s (b .control) (b .pool) x) []
-stepOf s b (translation kind a n) = reads b (numberOfAnswer (translateOf s (b .control) (b .pool) kind a n)) 0 []
-stepOf s b (load a n) = reads b (loadOf s (b .control) (b .pool) a n .outcome .number) (loadOf s (b .control) (b .pool) a n .value) []
+stepOf s b (begin x) = answers (buffers (beginControl s (b .control) (b .pool) x) (b .pool)) (beginNumber s (b .control) (b .pool) x) []
+stepOf s b (translation kind a n) = accesses b (outcomeOf (translateOf s (b .control) (b .pool) kind a n)) 0 []
+stepOf s b (load a n) = accesses b (loadOf s (b .control) (b .pool) a n .outcome) (loadOf s (b .control) (b .pool) a n .value) []
 stepOf s b (store a n v) =
-    writes (buffers (storeControl s (b .control) (b .pool) kindStore a n) (storePool s (b .control) (b .pool) kindStore a (wordBytes n v)))
-    (storeOutcome s (b .control) (b .pool) kindStore a n .number)
-    []
-stepOf s b (fetch a n) = reads b (fetchOf s (b .control) (b .pool) a n .outcome .number) (fetchOf s (b .control) (b .pool) a n .value) []
+    accesses (buffers (storeControl s (b .control) (b .pool) kindStore a n) (storePool s (b .control) (b .pool) kindStore a (wordBytes n v)))
+    (storeOutcome s (b .control) (b .pool) kindStore a n)
+    0 []
+stepOf s b (fetch a n) = accesses b (fetchOf s (b .control) (b .pool) a n .outcome) (fetchOf s (b .control) (b .pool) a n .value) []
 stepOf s b (load-span a out) =
-    reads b (loadSpanOutcome s (b .control) (b .pool) a out .number) 0 (loadSpanOut s (b .control) (b .pool) a out)
+    accesses b (loadSpanOutcome s (b .control) (b .pool) a out) 0 (loadSpanOut s (b .control) (b .pool) a out)
 stepOf s b (store-span a bytes) =
-    writes (buffers (storeControl s (b .control) (b .pool) kindStoreSpan a (length bytes)) (storePool s (b .control) (b .pool) kindStoreSpan a bytes))
-    (storeOutcome s (b .control) (b .pool) kindStoreSpan a (length bytes) .number)
-    []
+    accesses (buffers (storeControl s (b .control) (b .pool) kindStoreSpan a (length bytes)) (storePool s (b .control) (b .pool) kindStoreSpan a bytes))
+    (storeOutcome s (b .control) (b .pool) kindStoreSpan a (length bytes))
+    0 []
 stepOf s b (call a registers) =
-    writes (buffers (callControl s (b .control) (b .pool) a registers) (b .pool)) (callNumber s (b .control) (b .pool) a registers) []
+    answers (buffers (callControl s (b .control) (b .pool) a registers) (b .pool)) (callNumber s (b .control) (b .pool) a registers) []
 stepOf s b (return registers) =
-    writes (buffers (returnControl s (b .control) (b .pool) registers) (b .pool)) (returnNumber s (b .control) (b .pool) registers)
+    answers (buffers (returnControl s (b .control) (b .pool) registers) (b .pool)) (returnNumber s (b .control) (b .pool) registers)
     (returnOut s (b .control) (b .pool) registers)
 stepOf s b (resize region n) =
-    writes (resizeOf s (b .control) (b .pool) region n .after) (resizeOf s (b .control) (b .pool) region n .number) []
+    answers (resizeOf s (b .control) (b .pool) region n .after) (resizeOf s (b .control) (b .pool) region n .number) []
 stepOf s b (change-list out) =
-    reads b (changeListNumber s (b .control) (b .pool) out) 0 (changeListOut s (b .control) (b .pool) out)
+    answers b (changeListNumber s (b .control) (b .pool) out) (changeListOut s (b .control) (b .pool) out)
 stepOf s b (page-view a q) =
-    reads b (viewNumber (viewOf s (b .control) (b .pool) a q)) 0 (viewBytes s (b .pool) (viewOf s (b .control) (b .pool) a q))
+    answers b (viewNumber (viewOf s (b .control) (b .pool) a q)) (viewBytes s (b .pool) (viewOf s (b .control) (b .pool) a q))
 
 -- the same, with the two working buffers one by one
 abbrev pub lent : List ℕ → List ℕ → List ℕ → Call → Step

@@ -7,16 +7,20 @@ use access::stores::store;
 use access::stores::store_span;
 use address::Address;
 use refusal::DONE;
+use refusal::distance;
 use refusal::number;
+use translate::place::Outcome;
 use translate::place::Place;
 use translate::place::Translation;
 use translate::translation::translate;
 ghost use mathlib.Core.Path.{_≡_};
+ghost use Prim.Native.Nat.{_<_};
+ghost use Rattle.layout.specs.Page.{pageSize};
 ghost use Rattle.translate.specs.Translate.{translateOf};
 ghost use Rattle.hekthumar.specs.Steps.{translation, load, fetch, store, load-span, store-span, lent};
-ghost use Rattle.hekthumar.specs.Answers.{placeOf, placeAnswer, valueAnswer, stepValue};
+ghost use Rattle.hekthumar.specs.Answers.{placeOf, placeAnswer, distanceIn, valueAnswer, stepValue, outcomeAnswer, stepOutcome};
 
-// Translation's answer: a field that the case does not name is 0.
+// Translation's answer: a field that the case does not name is 0. Where a byte is not present, `at` is the distance to it.
 #[repr(C)]
 pub struct PlaceAnswer {
     pub at: u64,
@@ -27,10 +31,18 @@ pub struct PlaceAnswer {
     pub number: u8,
 }
 
-// A value, or 0 and the number of the refusal.
+// A value, or 0 and the number of the refusal; where a byte is not present, the distance to it.
 #[repr(C)]
 pub struct ValueAnswer {
     pub value: u64,
+    pub distance: u16,
+    pub number: u8,
+}
+
+// The number of an access without a value; where a byte is not present, the distance to it.
+#[repr(C)]
+pub struct OutcomeAnswer {
+    pub distance: u16,
     pub number: u8,
 }
 
@@ -85,6 +97,7 @@ pub extern "C" fn hekthumar_translate(
 ) -> PlaceAnswer
     ensures { λ r. ⌜ r ≡ placeAnswer (translateOf (now (snapshot .entry)) (now (control .entry)) (now (pool .entry)) kind address length) ⌝ }
     ensures { λ r. ⌜ r .number ≡ lent (now (snapshot .entry)) (now (control .entry)) (now (pool .entry)) (translation kind address length) .answer .number ⌝ }
+    ensures { λ r. ⌜ distanceIn r ≡ lent (now (snapshot .entry)) (now (control .entry)) (now (pool .entry)) (translation kind address length) .answer .distance ⌝ }
     ensures { λ _. ⌜ now (control .entry) ≡ lent (now (snapshot .entry)) (now (control .entry)) (now (pool .entry)) (translation kind address length) .after .control ⌝ }
     ensures { λ _. ⌜ now (pool .entry) ≡ lent (now (snapshot .entry)) (now (control .entry)) (now (pool .entry)) (translation kind address length) .after .pool ⌝ }
 {
@@ -92,7 +105,7 @@ pub extern "C" fn hekthumar_translate(
     match t {
         Translation::Allowed(p) => place_of(p),
         Translation::Refused(r) => PlaceAnswer {
-            at: 0,
+            at: distance(r) as u64,
             frame: 0,
             account: 0,
             page: 0,
@@ -102,13 +115,26 @@ pub extern "C" fn hekthumar_translate(
     }
 }
 
-// A value and what its access answers.
+// A value and what its access answers. A distance is below the length of an access, so it fits.
 fn value_of(v: Value) -> ValueAnswer
+    requires { ⌜ v .outcome .distance < pageSize ⌝ }
     ensures { λ r. ⌜ r ≡ valueAnswer v ⌝ }
 {
     let o = v.outcome;
     ValueAnswer {
         value: v.value,
+        distance: o.distance as u16,
+        number: o.number,
+    }
+}
+
+// What an access without a value answers.
+fn outcome_answer(o: Outcome) -> OutcomeAnswer
+    requires { ⌜ o .distance < pageSize ⌝ }
+    ensures { λ r. ⌜ r ≡ outcomeAnswer o ⌝ }
+{
+    OutcomeAnswer {
+        distance: o.distance as u16,
         number: o.number,
     }
 }
@@ -154,13 +180,12 @@ pub extern "C" fn hekthumar_store(
     address: u64,
     size: usize,
     value: u64,
-) -> u8
-    ensures { λ r. ⌜ r ≡ lent (now (snapshot .entry)) (now (control .entry)) (now (pool .entry)) (store address size value) .answer .number ⌝ }
+) -> OutcomeAnswer
+    ensures { λ r. ⌜ r ≡ stepOutcome (lent (now (snapshot .entry)) (now (control .entry)) (now (pool .entry)) (store address size value)) ⌝ }
     ensures { λ _. ⌜ now (control .exit) ≡ lent (now (snapshot .entry)) (now (control .entry)) (now (pool .entry)) (store address size value) .after .control ⌝ }
     ensures { λ _. ⌜ now (pool .exit) ≡ lent (now (snapshot .entry)) (now (control .entry)) (now (pool .entry)) (store address size value) .after .pool ⌝ }
 {
-    let o = store(snapshot, control, pool, Address(address), size, value);
-    o.number
+    outcome_answer(store(snapshot, control, pool, Address(address), size, value))
 }
 
 // Fills the lent buffer.
@@ -171,14 +196,13 @@ pub extern "C" fn hekthumar_load_span(
     pool: &[u8],
     address: u64,
     out: &mut [u8],
-) -> u8
-    ensures { λ r. ⌜ r ≡ lent (now (snapshot .entry)) (now (control .entry)) (now (pool .entry)) (load-span address (now (out .entry))) .answer .number ⌝ }
+) -> OutcomeAnswer
+    ensures { λ r. ⌜ r ≡ stepOutcome (lent (now (snapshot .entry)) (now (control .entry)) (now (pool .entry)) (load-span address (now (out .entry)))) ⌝ }
     ensures { λ _. ⌜ now (out .exit) ≡ lent (now (snapshot .entry)) (now (control .entry)) (now (pool .entry)) (load-span address (now (out .entry))) .answer .bytes ⌝ }
     ensures { λ _. ⌜ now (control .entry) ≡ lent (now (snapshot .entry)) (now (control .entry)) (now (pool .entry)) (load-span address (now (out .entry))) .after .control ⌝ }
     ensures { λ _. ⌜ now (pool .entry) ≡ lent (now (snapshot .entry)) (now (control .entry)) (now (pool .entry)) (load-span address (now (out .entry))) .after .pool ⌝ }
 {
-    let o = load_span(snapshot, control, pool, Address(address), out);
-    o.number
+    outcome_answer(load_span(snapshot, control, pool, Address(address), out))
 }
 
 // Stores the whole of the lent buffer.
@@ -189,11 +213,10 @@ pub extern "C" fn hekthumar_store_span(
     pool: &mut [u8],
     address: u64,
     bytes: &[u8],
-) -> u8
-    ensures { λ r. ⌜ r ≡ lent (now (snapshot .entry)) (now (control .entry)) (now (pool .entry)) (store-span address (now (bytes .entry))) .answer .number ⌝ }
+) -> OutcomeAnswer
+    ensures { λ r. ⌜ r ≡ stepOutcome (lent (now (snapshot .entry)) (now (control .entry)) (now (pool .entry)) (store-span address (now (bytes .entry)))) ⌝ }
     ensures { λ _. ⌜ now (control .exit) ≡ lent (now (snapshot .entry)) (now (control .entry)) (now (pool .entry)) (store-span address (now (bytes .entry))) .after .control ⌝ }
     ensures { λ _. ⌜ now (pool .exit) ≡ lent (now (snapshot .entry)) (now (control .entry)) (now (pool .entry)) (store-span address (now (bytes .entry))) .after .pool ⌝ }
 {
-    let o = store_span(snapshot, control, pool, Address(address), bytes);
-    o.number
+    outcome_answer(store_span(snapshot, control, pool, Address(address), bytes))
 }

@@ -9,7 +9,7 @@ use Rattle.choice.proofs.Tests.{differ}
 use Rattle.refusal.specs.Numbers.{numberOf, done}
 use Rattle.refusal.specs.Checks.{need, _then_, checkNumber}
 use Rattle.refusal.specs.declared.Refusal.{Refusal}
-use Rattle.refusal.specs.declared.Refusal.the-variants.{Invalid, BadRequest, BadAddress, Absent, NoSegment, Misaligned, Crossing, NotPermitted, NoFrame, DepthLimit, TooManyPages, ShortOutput, BadList}
+use Rattle.refusal.specs.declared.Refusal.the-variants.{Invalid, BadRequest, BadAddress, NoSegment, Misaligned, Crossing, NotPermitted, NoFrame, DepthLimit, TooManyPages, ShortOutput, BadList, Absent}
 use Rattle.refusal.specs.declared.Check.{Check}
 use Rattle.refusal.specs.declared.Check.the-variants.{Pass, Stop}
 
@@ -65,7 +65,6 @@ pub refusal-number : (r : Refusal) → eqb (numberOf r) done ≡ false
 refusal-number Invalid = refl
 refusal-number BadRequest = refl
 refusal-number BadAddress = refl
-refusal-number Absent = refl
 refusal-number NoSegment = refl
 refusal-number Misaligned = refl
 refusal-number Crossing = refl
@@ -75,6 +74,7 @@ refusal-number DepthLimit = refl
 refusal-number TooManyPages = refl
 refusal-number ShortOutput = refl
 refusal-number BadList = refl
+refusal-number (Absent d) = refl
 
 -- a check with the number 0 passed
 pub check-passed : (x : Check) → eqb (checkNumber x) done ≡ true → x ≡ Pass

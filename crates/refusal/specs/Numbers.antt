@@ -1,18 +1,18 @@
--- Document 01, "Numbers given back". Assumes nothing.
+-- Document 01, "Numbers given back", and document 02, "One". Assumes nothing.
 use Prim.Native.Nat.{ℕ}
 use Rattle.refusal.specs.declared.Refusal.{Refusal}
-use Rattle.refusal.specs.declared.Refusal.the-variants.{Invalid, BadRequest, BadAddress, Absent, NoSegment, Misaligned, Crossing, NotPermitted, NoFrame, DepthLimit, TooManyPages, ShortOutput, BadList}
+use Rattle.refusal.specs.declared.Refusal.the-variants.{Invalid, BadRequest, BadAddress, NoSegment, Misaligned, Crossing, NotPermitted, NoFrame, DepthLimit, TooManyPages, ShortOutput, BadList, Absent}
 
 -- "0 | done"
 abbrev pub done : ℕ
 done = 0
 
--- the table "No. | Meaning"; 3 stands for two meanings, each a case of its own
+-- the table "No. | Meaning". "Number 3 stays for set upper bits and for a join with too large an offset. A byte not present, and a
+-- view of a page with no live bytes, become 13."
 abbrev pub numberOf : Refusal → ℕ
 numberOf Invalid = 1
 numberOf BadRequest = 2
 numberOf BadAddress = 3
-numberOf Absent = 3
 numberOf NoSegment = 4
 numberOf Misaligned = 5
 numberOf Crossing = 6
@@ -22,3 +22,20 @@ numberOf DepthLimit = 9
 numberOf TooManyPages = 10
 numberOf ShortOutput = 11
 numberOf BadList = 12
+numberOf (Absent d) = 13
+
+-- "With 13 an access also gives the distance from its first byte to the first absent one, else 0."
+abbrev pub distanceOf : Refusal → ℕ
+distanceOf Invalid = 0
+distanceOf BadRequest = 0
+distanceOf BadAddress = 0
+distanceOf NoSegment = 0
+distanceOf Misaligned = 0
+distanceOf Crossing = 0
+distanceOf NotPermitted = 0
+distanceOf NoFrame = 0
+distanceOf DepthLimit = 0
+distanceOf TooManyPages = 0
+distanceOf ShortOutput = 0
+distanceOf BadList = 0
+distanceOf (Absent d) = d

@@ -1,8 +1,8 @@
-// Why a call is refused, and the number that it gives back.
+// Why a call is refused, the number that it gives back, and how far an access went.
 ghost use mathlib.Core.Path.{_≡_};
-ghost use Rattle.refusal.specs.Numbers.{numberOf};
+ghost use Rattle.refusal.specs.Numbers.{numberOf, distanceOf};
 
-// A case for each meaning that document 01 gives a number; `BadAddress` and `Absent` share one today.
+// A case for each meaning that has a number.
 pub enum Refusal {
     // a buffer, header, account entry or control block is not valid
     Invalid,
@@ -10,8 +10,6 @@ pub enum Refusal {
     BadRequest,
     // set upper bits, or an offset of 2^24 or more
     BadAddress,
-    // a byte that is not present
-    Absent,
     // no such segment, account or program
     NoSegment,
     Misaligned,
@@ -27,6 +25,8 @@ pub enum Refusal {
     ShortOutput,
     // a change list that is not well formed
     BadList,
+    // a byte that is not present, so many bytes behind the first
+    Absent(usize),
 }
 
 // What a test finds: go on, or refuse.
@@ -46,7 +46,6 @@ pub fn number(r: Refusal) -> u8
         Refusal::Invalid => 1,
         Refusal::BadRequest => 2,
         Refusal::BadAddress => 3,
-        Refusal::Absent => 3,
         Refusal::NoSegment => 4,
         Refusal::Misaligned => 5,
         Refusal::Crossing => 6,
@@ -56,5 +55,27 @@ pub fn number(r: Refusal) -> u8
         Refusal::TooManyPages => 10,
         Refusal::ShortOutput => 11,
         Refusal::BadList => 12,
+        Refusal::Absent(_) => 13,
+    }
+}
+
+// How many bytes an access went before the first that is not present; 0 where another thing was wrong.
+pub fn distance(r: Refusal) -> usize
+    ensures { λ n. ⌜ n ≡ distanceOf r ⌝ }
+{
+    match r {
+        Refusal::Invalid => 0,
+        Refusal::BadRequest => 0,
+        Refusal::BadAddress => 0,
+        Refusal::NoSegment => 0,
+        Refusal::Misaligned => 0,
+        Refusal::Crossing => 0,
+        Refusal::NotPermitted => 0,
+        Refusal::NoFrame => 0,
+        Refusal::DepthLimit => 0,
+        Refusal::TooManyPages => 0,
+        Refusal::ShortOutput => 0,
+        Refusal::BadList => 0,
+        Refusal::Absent(n) => n,
     }
 }

@@ -45,6 +45,8 @@ pub fn load_at(snapshot: &[u8], control: &[u8], pool: &[u8], address: u64, size:
     say(b": ");
     let o = v.outcome;
     number(o.number as u64);
+    say(b", distance ");
+    number(o.distance as u64);
     say(b", value ");
     hex(v.value, 2);
     say(b"\n");

@@ -1,11 +1,11 @@
--- What an answer of translation says that no test gives: all tests before it have passed, and it is the place of the row. With it what that
--- means in account data. Assumes nothing.
-use Prim.Native.Nat.{ℕ, _+_, _%_, _≤_, _<_}
+-- What an answer of translation says of the tests before it: those before presence, where no refusal of theirs is the answer; all of
+-- them, where no test gives it, and that it is the place of the row. With it what that means in account data. Assumes nothing.
+use Prim.Native.Nat.{ℕ, _+_, _-_, _%_, _≤_, _<_}
 use mathlib.Core.Path.{_≡_, refl, sym, ap, _∙_}
 use mathlib.Core.Bool.{Bool, true, false}
 use mathlib.Core.List.{List}
 use native.Mathlib.Omega.{arith}
-use lib.Dec.{eqb}
+use lib.Dec.{eqb, leb}
 use borrow.Author.Tests.{ltb-true, leb-true, lt-ltb}
 use Rattle.layout.specs.Page.{pageSize}
 use Rattle.layout.specs.Address.{addresses}
@@ -15,7 +15,7 @@ use Rattle.refusal.specs.Checks.{need, _then_}
 use Rattle.refusal.specs.declared.Check.{Check}
 use Rattle.refusal.specs.declared.Check.the-variants.{Pass, Stop}
 use Rattle.refusal.specs.declared.Refusal.{Refusal}
-use Rattle.refusal.specs.declared.Refusal.the-variants.{Invalid, BadRequest, BadAddress, Absent, Misaligned, Crossing, NotPermitted, NoFrame}
+use Rattle.refusal.specs.declared.Refusal.the-variants.{Invalid, BadRequest, BadAddress, Absent, NoSegment, Misaligned, Crossing, NotPermitted, NoFrame}
 use Rattle.address.specs.Address.{typeOf, indexOf, offsetOf}
 use Rattle.snapshot.specs.Header.{accounts}
 use Rattle.snapshot.specs.Accounts.{entryOf, entryValid, dataLength}
@@ -71,12 +71,73 @@ unfolding _then_
 refusing-then Pass e t = refl
 refusing-then (Stop r) e t = refl
 
--- before an answer that no test gives, each test passed
-peel : (t : Translation) → last t ≡ true → (b : Bool) (r : Refusal) (y : Translation) → last (Refused r) ≡ false
+-- a test of answers that no refusal before presence passes
+pub record Apart (f : Translation → Bool) : Type 0 where
+  pub invalid : f (Refused Invalid) ≡ false
+  pub request : f (Refused BadRequest) ≡ false
+  pub address : f (Refused BadAddress) ≡ false
+  pub segment : f (Refused NoSegment) ≡ false
+  pub alignment : f (Refused Misaligned) ≡ false
+  pub permission : f (Refused NotPermitted) ≡ false
+  pub crossing : f (Refused Crossing) ≡ false
+
+-- where the answer passes one that a test's refusal does not pass, the test did
+peel : (f : Translation → Bool) (t : Translation) → f t ≡ true → (b : Bool) (r : Refusal) (y : Translation) → f (Refused r) ≡ false
     → refusing (need b r) y ≡ t → (b ≡ true) × (y ≡ t)
 unfolding need
-peel t l true r y h e = (refl, e)
-peel t l false r y h e = absurd (differ (last t) l (ap last (sym e) ∙ h))
+peel f t l true r y h e = (refl, e)
+peel f t l false r y h e = absurd (differ (f t) l (ap f (sym e) ∙ h))
+
+-- ---- the tests before presence
+
+-- what those of a row ask
+pub record RowTested (s c : List ℕ) (p : Presence) (rule : StoreRule) (q : Request) : Type 0 where
+  pub entry : concernedValid s c p q ≡ true
+  pub aligned : aligned (q .kind) (q .offset) (q .length) ≡ true
+  pub permitted : permitted (q .kind) p rule (owned s c p q) ≡ true
+  pub within : q .offset % pageSize + q .length ≤ pageSize
+
+-- the test of presence, then the place
+abbrev pub presentPlace : List ℕ → List ℕ → Presence → Request → Translation
+presentPlace s c p q = refusing (need (leb (q .offset + q .length) (endOf s c p q)) (Absent (endOf s c p q - q .offset))) (placeOf s c p q)
+
+-- an answer that passes such a test comes after them
+pub row-tested : (s c : List ℕ) (p : Presence) (rule : StoreRule) (q : Request) (f : Translation → Bool) → Apart f → (t : Translation) → f t ≡ true
+    → inRow s c p rule q ≡ t → RowTested s c p rule q × (presentPlace s c p q ≡ t)
+unfolding inRow rowCheck rowChecks
+row-tested s c p rule q f x t l e =
+    let h₁ = peel f t l _ Invalid _ (x .invalid) (simp refusing-then at e) in
+    let h₂ = peel f t l _ Misaligned _ (x .alignment) (h₁ .1) in
+    let h₃ = peel f t l _ NotPermitted _ (x .permission) (h₂ .1) in
+    let h₄ = peel f t l _ Crossing _ (x .crossing) (h₃ .1) in
+    (record { entry = h₁ .0; aligned = h₂ .0; permitted = h₃ .0; within = within-length (q .offset) (q .length) (h₄ .0) }, h₄ .1)
+
+-- what the tests before a row say, and that the row gives the answer
+pub record InRow (s c p : List ℕ) (kind a n : ℕ) (t : Translation) : Type 0 where
+  pub buffers : buffersValid s c p ≡ true
+  pub request : requestValid kind n ≡ true
+  pub address : a < addresses
+  pub row : Row
+  pub found : rowOf rules (typeOf a) (indexOf a) (accounts s) ≡ Is row
+  pub given : inRow s c (row .presence) (row .store) (requestOf kind a n) ≡ t
+
+module _ (s c p : List ℕ) (kind a n : ℕ) (f : Translation → Bool) (x : Apart f) where
+  -- once the first tests have passed
+  in-segment : {t : Translation} → f t ≡ true → buffersValid s c p ≡ true → requestValid kind n ≡ true → a < addresses
+      → (g : Segment) → rowOf rules (typeOf a) (indexOf a) (accounts s) ≡ g → inSegment s c g (requestOf kind a n) ≡ t
+      → InRow s c p kind a n t
+  unfolding inSegment
+  in-segment {t} l b v h Missing w e = absurd (differ (f t) l (ap f (sym e) ∙ x .segment))
+  in-segment l b v h (Is r) w e = record { buffers = b; request = v; address = h; row = r; found = w; given = e }
+
+  -- an answer that passes such a test comes from a row
+  pub in-row : {t : Translation} → translateOf s c p kind a n ≡ t → f t ≡ true → InRow s c p kind a n t
+  unfolding translateOf firstChecks
+  in-row {t} e l =
+      let h₁ = peel f t l _ Invalid _ (x .invalid) (simp refusing-then at e) in
+      let h₂ = peel f t l _ BadRequest _ (x .request) (h₁ .1) in
+      let h₃ = peel f t l _ BadAddress _ (x .address) (h₂ .1) in
+      in-segment l (h₁ .0) (h₂ .0) (ltb-true a addresses (h₃ .0)) _ refl (h₃ .1)
 
 -- ---- all tests
 
@@ -88,24 +149,25 @@ pub record RowPassed (s c : List ℕ) (p : Presence) (rule : StoreRule) (q : Req
   pub within : q .offset % pageSize + q .length ≤ pageSize
   pub present : q .offset + q .length ≤ endOf s c p q
 
+-- no test gives an answer that passes `last`
+last-apart : Apart last
+last-apart =
+    record { invalid = refl; request = refl; address = refl; segment = refl; alignment = refl; permission = refl; crossing = refl }
+
 -- before an answer that no test gives, they passed
 row-passed : (s c : List ℕ) (p : Presence) (rule : StoreRule) (q : Request) (t : Translation) → last t ≡ true → inRow s c p rule q ≡ t
     → RowPassed s c p rule q × (placeOf s c p q ≡ t)
-unfolding inRow rowCheck rowChecks
 row-passed s c p rule q t l e =
-    let h₁ = peel t l _ Invalid _ refl (simp refusing-then at e) in
-    let h₂ = peel t l _ Misaligned _ refl (h₁ .1) in
-    let h₃ = peel t l _ NotPermitted _ refl (h₂ .1) in
-    let h₄ = peel t l _ Crossing _ refl (h₃ .1) in
-    let h₅ = peel t l _ Absent _ refl (h₄ .1) in (
+    let x = row-tested s c p rule q last last-apart t l e in
+    let h = peel last t l _ (Absent _) _ refl (x .1) in (
       record {
-        entry = h₁ .0;
-        aligned = h₂ .0;
-        permitted = h₃ .0;
-        within = within-length (q .offset) (q .length) (h₄ .0);
-        present = leb-true (q .offset + q .length) (endOf s c p q) (h₅ .0);
+        entry = x .0 .entry;
+        aligned = x .0 .aligned;
+        permitted = x .0 .permitted;
+        within = x .0 .within;
+        present = leb-true (q .offset + q .length) (endOf s c p q) (h .0);
       },
-      h₅ .1,
+      h .1,
     )
 
 -- what an answer that no test gives says: a place, or "last 8"
@@ -118,25 +180,12 @@ pub record Accepted (s c p : List ℕ) (kind a n : ℕ) (t : Translation) : Type
   pub passed : RowPassed s c (row .presence) (row .store) (requestOf kind a n)
   pub place : placeOf s c (row .presence) (requestOf kind a n) ≡ t
 
-module _ (s c p : List ℕ) (kind a n : ℕ) where
-  -- once the first tests have passed
-  segment-accepted : {t : Translation} → last t ≡ true → buffersValid s c p ≡ true → requestValid kind n ≡ true → a < addresses
-      → (g : Segment) → rowOf rules (typeOf a) (indexOf a) (accounts s) ≡ g → inSegment s c g (requestOf kind a n) ≡ t
-      → Accepted s c p kind a n t
-  unfolding inSegment
-  segment-accepted l b v h Missing f e = absurd (differ _ l (ap last (sym e)))
-  segment-accepted {t} l b v h (Is r) f e =
-      let w = row-passed s c (r .presence) (r .store) (requestOf kind a n) t l e in
-      record { buffers = b; request = v; address = h; row = r; found = f; passed = w .0; place = w .1 }
-
-  -- an answer that no test gives comes after all of them
-  pub accepted : {t : Translation} → translateOf s c p kind a n ≡ t → last t ≡ true → Accepted s c p kind a n t
-  unfolding translateOf firstChecks
-  accepted {t} e l =
-      let h₁ = peel t l _ Invalid _ refl (simp refusing-then at e) in
-      let h₂ = peel t l _ BadRequest _ refl (h₁ .1) in
-      let h₃ = peel t l _ BadAddress _ refl (h₂ .1) in
-      segment-accepted l (h₁ .0) (h₂ .0) (ltb-true a addresses (h₃ .0)) _ refl (h₃ .1)
+-- an answer that no test gives comes after all of them
+pub accepted : (s c p : List ℕ) (kind a n : ℕ) {t : Translation} → translateOf s c p kind a n ≡ t → last t ≡ true → Accepted s c p kind a n t
+accepted s c p kind a n {t} e l =
+    let x = in-row s c p kind a n last last-apart e l in
+    let w = row-passed s c (x .row .presence) (x .row .store) (requestOf kind a n) t l (x .given) in
+    record { buffers = x .buffers; request = x .request; address = x .address; row = x .row; found = x .found; passed = w .0; place = w .1 }
 
 -- ---- account data
 

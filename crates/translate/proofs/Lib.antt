@@ -1,5 +1,6 @@
 pub mod Read
 pub mod Tested
+pub mod Absence
 pub mod Accepted
 pub mod Stores
 pub mod Places

@@ -3,3 +3,4 @@ pub mod Checks
 pub mod Translate
 pub mod Columns
 pub mod Fits
+pub mod Presence

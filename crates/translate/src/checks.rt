@@ -9,7 +9,7 @@ use segments::kinds::request_valid;
 use segments::kinds::within;
 ghost use mathlib.Core.Path.{_≡_};
 ghost use mathlib.Core.Bool.{true};
-ghost use Prim.Native.Nat.{_<_};
+ghost use Prim.Native.Nat.{_+_, _-_, _<_};
 ghost use Rattle.layout.specs.Address.{offsets};
 ghost use Rattle.segments.specs.Kinds.{requestValid};
 ghost use Rattle.translate.specs.Checks.{firstChecks, rowChecks};
@@ -30,6 +30,16 @@ pub fn first_checks(buffers: bool, kind: u8, a: Address, n: usize) -> Check
     Check::Pass
 }
 
+// How many bytes are present from the offset on, where they end there.
+fn present_from(offset: usize, end: usize) -> usize
+    ensures { λ n. ⌜ n ≡ end - offset ⌝ }
+{
+    if end <= offset {
+        return 0;
+    }
+    end - offset
+}
+
 // The tests once the segment is known, up to presence: the account's entry, alignment, permission, the page's end, presence.
 pub fn row_checks(entry: bool, permitted: bool, q: Request, end: usize) -> Check
     requires { ⌜ (requestValid (q .kind) (q .length) ≡ true) × (q .offset < offsets) ⌝ }
@@ -48,7 +58,7 @@ pub fn row_checks(entry: bool, permitted: bool, q: Request, end: usize) -> Check
         return Check::Stop(Refusal::Crossing);
     }
     if q.offset + q.length <= end {} else {
-        return Check::Stop(Refusal::Absent);
+        return Check::Stop(Refusal::Absent(present_from(q.offset, end)));
     }
     Check::Pass
 }

@@ -3,6 +3,7 @@ use pages::Frame;
 use pages::Page;
 use refusal::DONE;
 use refusal::Refusal;
+use refusal::distance;
 use refusal::number;
 use snapshot::accounts::Account;
 ghost use mathlib.Core.Path.{_≡_};
@@ -36,8 +37,10 @@ pub enum Translation {
     Refused(Refusal),
 }
 
-// What every access answers besides a value: its number.
+// What every access answers besides a value: how many bytes it went where one is not present, and its number. In the order of the C
+// interface, so that it is handed on as it is.
 pub struct Outcome {
+    pub distance: usize,
     pub number: u8,
 }
 
@@ -46,7 +49,13 @@ pub fn outcome_of(t: Translation) -> Outcome
     ensures { λ r. ⌜ r ≡ outcomeOf t ⌝ }
 {
     match t {
-        Translation::Allowed(_) => Outcome { number: DONE },
-        Translation::Refused(r) => Outcome { number: number(r) },
+        Translation::Allowed(_) => Outcome {
+            distance: 0,
+            number: DONE,
+        },
+        Translation::Refused(r) => Outcome {
+            distance: distance(r),
+            number: number(r),
+        },
     }
 }

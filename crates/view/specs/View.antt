@@ -1,4 +1,4 @@
--- Document 01, "Change list and page view": the page view. Assumes nothing.
+-- Document 01, "Change list and page view", with document 02, "One": the page view. Assumes nothing.
 use Prim.Native.Nat.{ℕ, _+_}
 use mathlib.Core.List.{List, []}
 use lib.Dec.{leb}
@@ -22,12 +22,12 @@ use Rattle.frames.specs.declared.finding.Found.the-variants.{At, Nothing}
 use Rattle.view.specs.declared.View.{View}
 use Rattle.view.specs.declared.View.the-variants.{InSnapshot, InPool, Refused}
 
--- "1 headers, 4 account, 1 entry, 3 no live bytes"
+-- "1 headers, 4 account, 1 entry, 3 no live bytes", the last of which is 13: the page's first byte is absent
 unfoldable pub viewCheck : List ℕ → List ℕ → List ℕ → Account → Page → Check
 viewCheck s c p a q =
     need (buffersValid s c p) Invalid
     then accountCheck s a
-    then need (leb 1 (live s a q)) Absent
+    then need (leb 1 (live s a q)) (Absent 0)
 
 -- "the live bytes of an account page as a part of the ground or of the pool"
 abbrev pub viewIn : AccountEntry → Page → Found → View
@@ -41,7 +41,7 @@ orRefused (Stop r) v = Refused r
 
 -- the last test and the view, of an account's entry: the inner function's
 unfoldable pub viewOfEntry : List ℕ → Account → Page → AccountEntry → View
-viewOfEntry c a q e = orRefused (need (leb 1 (liveOf (dataLength e) q)) Absent) (viewIn e q (frameOf c (Copy a q)))
+viewOfEntry c a q e = orRefused (need (leb 1 (liveOf (dataLength e) q)) (Absent 0)) (viewIn e q (frameOf c (Copy a q)))
 
 -- the page view
 unfoldable pub viewOf : List ℕ → List ℕ → List ℕ → Account → Page → View

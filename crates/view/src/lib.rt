@@ -34,7 +34,7 @@ fn view_in(c: &[u8], a: Account, page: Page, e: AccountEntry) -> View
 {
     let live = live_bytes(e.data_length(), page);
     if live < 1 {
-        return View::Refused(Refusal::Absent);
+        return View::Refused(Refusal::Absent(0));
     }
     match frame_of(c, Claim::Copy(a, page)) {
         Found::At(f) => View::InPool(frame_start(f), live),

@@ -1,6 +1,6 @@
 //! Why an access was refused.
 
-use super::segment::{extent, first_absent, name};
+use super::segment::{extent, name};
 use super::{buffers, callers_page, entry, no_account, no_frame};
 use crate::text::count;
 use crate::world::World;
@@ -20,12 +20,13 @@ pub fn why(world: World, access: Access, refusal: Refusal) -> Option<String> {
     match refusal {
         Refusal::Invalid => buffers(world).or_else(|| not_valid(world, access)),
         Refusal::BadRequest => Some(lengths(access)),
-        Refusal::OutOfRange => upper_bits(access.address).or_else(|| absent(world, access)),
+        Refusal::OutOfRange => upper_bits(access.address),
         Refusal::NoSegment => no_segment(world, access.address),
         Refusal::Misaligned => Some(format!("offset {:#x} is not a multiple of {}", offset(access)?, access.length)),
         Refusal::CrossesPage => crossed(access),
         Refusal::NotPermitted => forbidden(world, access),
         Refusal::OutOfFrames => no_free_frame(world, access),
+        Refusal::Absent { .. } => absent(world, access, refusal),
         _ => None,
     }
 }
@@ -47,11 +48,10 @@ fn upper_bits(address: Address) -> Option<String> {
     (bits != 0).then(|| format!("an address has 48 bits; those above are {bits:#x}"))
 }
 
-/// The first byte that is not there, and where the segment ends.
-fn absent(world: World, access: Access) -> Option<String> {
+/// How far the access came, and where the segment ends.
+fn absent(world: World, access: Access, refusal: Refusal) -> Option<String> {
     let segment = access.address.segment().ok()?;
-    let byte = first_absent(world, segment, offset(access)?, access.length)?;
-    Some(format!("the byte at offset {byte:#x} is not there: {}", extent(world, segment)))
+    Some(format!("{}: {}", refusal.explain(access.length), extent(world, segment)))
 }
 
 fn no_segment(world: World, address: Address) -> Option<String> {

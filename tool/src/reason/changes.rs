@@ -19,7 +19,7 @@ pub fn view(world: World, account: u16, page: u16, refusal: Refusal) -> Option<S
     match refusal {
         Refusal::Invalid => buffers(world).or_else(|| entry(world, account)),
         Refusal::NoSegment => no_account(world, account),
-        Refusal::OutOfRange => {
+        Refusal::Absent { .. } => {
             let length = count(world.data_length(account) as u64, "byte");
             Some(format!("there is no page {page} of account {account}, which has {length} of data"))
         }

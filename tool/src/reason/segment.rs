@@ -1,4 +1,4 @@
-//! The segments in words: what they are called, which of their bytes are there, where they end.
+//! The segments in words: what they are called, where they end.
 
 use crate::text::count;
 use crate::world::World;
@@ -17,19 +17,6 @@ pub fn name(segment: Segment) -> String {
         Segment::Data(account) => format!("the data of account {account}"),
         Segment::Stack => "the stack".to_string(),
         Segment::Heap => "the heap".to_string(),
-    }
-}
-
-/// The offset of the first byte of an access that is not there.
-pub fn first_absent(world: World, segment: Segment, offset: usize, length: usize) -> Option<usize> {
-    (offset..offset.saturating_add(length)).find(|&offset| !present(world, segment, offset))
-}
-
-fn present(world: World, segment: Segment, offset: usize) -> bool {
-    match segment {
-        Segment::BlockContexts => offset / PAGE < contexts(world) && offset % PAGE < CONTEXT,
-        Segment::Stack => (SEGMENT - PAGE * world.pages(Region::Stack).min(SEGMENT / PAGE)..SEGMENT).contains(&offset),
-        _ => offset < end(world, segment),
     }
 }
 

@@ -1,6 +1,7 @@
 //! How each statement is written.
 
-/// A statement's name, the words after it, the words that may be expected of it after `=>`, and what it does.
+/// A statement's name, the words after it, the words that may be expected of it after `=>`, and what it does. A number after | has words
+/// of its own.
 pub struct Form {
     pub name: &'static str,
     pub words: &'static str,
@@ -14,12 +15,12 @@ pub const FORMS: [Form; 20] = [
     form("frames", "N", "", "lends a pool of N frames, 0 to 1024, before begin; 16 otherwise"),
     form("resume", "CONTROL POOL", "", "lends a saved control block and a saved pool"),
     form("begin", "PROGRAM", "NUMBER", "begins a program: an account's number"),
-    form("load", "ADDRESS SIZE", "NUMBER [VALUE]", "loads 1, 2, 4 or 8 bytes as a number"),
-    form("fetch", "ADDRESS SIZE", "NUMBER [VALUE]", "the same of the program"),
-    form("store", "ADDRESS SIZE VALUE", "NUMBER", "stores the low bytes of a number"),
-    form("load-span", "ADDRESS LENGTH", "NUMBER [BYTES]", "loads 1 to 4096 bytes of one page"),
-    form("store-span", "ADDRESS BYTES", "NUMBER", "stores them; BYTES are pairs of hexadecimal digits"),
-    form("translate", "KIND ADDRESS LENGTH", "NUMBER [PLACE [OFFSET [FRAME ACCOUNT PAGE]]]",
+    form("load", "ADDRESS SIZE", "NUMBER [VALUE] | 13 [DISTANCE]", "loads 1, 2, 4 or 8 bytes as a number"),
+    form("fetch", "ADDRESS SIZE", "NUMBER [VALUE] | 13 [DISTANCE]", "the same of the program"),
+    form("store", "ADDRESS SIZE VALUE", "NUMBER | 13 [DISTANCE]", "stores the low bytes of a number"),
+    form("load-span", "ADDRESS LENGTH", "NUMBER [BYTES] | 13 [DISTANCE]", "loads 1 to 4096 bytes of one page"),
+    form("store-span", "ADDRESS BYTES", "NUMBER | 13 [DISTANCE]", "stores them; BYTES are pairs of hexadecimal digits"),
+    form("translate", "KIND ADDRESS LENGTH", "NUMBER [PLACE [OFFSET [FRAME ACCOUNT PAGE]]] | 13 [DISTANCE]",
         "where an access would go; KIND is load, store, fetch, load-span or store-span"),
     form("call", "PROGRAM [VALUE]", "NUMBER", "calls a program; VALUE goes into register 0, zeros into the others"),
     form("return", "", "NUMBER [REGISTER..]", "returns; prints the registers that are not zero"),
@@ -42,6 +43,12 @@ impl Form {
     /// The form of the statement with this name.
     pub fn of(name: &[u8]) -> Option<&'static Form> {
         FORMS.iter().find(|form| form.name.as_bytes() == name)
+    }
+
+    /// The names of the words that may be expected of the statement, in each alternative.
+    pub fn answers(&self) -> Vec<Vec<&'static str>> {
+        let names = |words: &'static str| words.split(' ').map(|name| name.trim_matches(['[', ']'])).collect();
+        self.answer.split(" | ").map(names).collect()
     }
 
     /// The statement as it is written, with what may be expected of it.

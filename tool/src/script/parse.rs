@@ -113,11 +113,14 @@ fn expected(form: &Form, words: &mut Words) -> Result<Option<Expected>, Mistake>
     let Some(sign) = words.expects() else {
         return words.end().map(|()| None);
     };
-    let names: Vec<&str> = form.answer.split(' ').map(|name| name.trim_matches(['[', ']'])).collect();
     if form.answer.is_empty() {
         return Err(Mistake::new(sign.column, format!("nothing can be expected of {}", form.name)));
     }
-    let mut facts = vec![fact(names[0], words)?];
+    let answers = form.answers();
+    let first = fact(answers[0][0], words)?;
+    let number = first.to_string();
+    let names = answers.iter().find(|names| names[0] == number).unwrap_or(&answers[0]);
+    let mut facts = vec![first];
     let mut rest = names[1..].iter();
     while words.peek().is_some() {
         match rest.next().or(names.last().filter(|name| name.ends_with(".."))) {

@@ -22,13 +22,15 @@ impl Session {
     pub(super) fn value(&self, asked: Access, value: Result<u64, Refusal>) -> Answer {
         match value {
             Ok(value) => Answer::done(&format!(", value {value:#0width$x}", width = 2 + 2 * asked.length), [Fact::Value(value)]),
-            Err(refusal) => Answer::refused(refusal, access::why(self.world(), asked, refusal)),
+            Err(refusal) => self.refused(asked, refusal),
         }
     }
 
     pub fn store(&mut self, address: Address, size: usize, value: u64) -> Answer {
-        let answer = self.memory().store(address, size, value);
-        self.plain(answer, |world, refusal| access::why(world, Access { kind: Kind::Store, address, length: size }, refusal))
+        match self.memory().store(address, size, value) {
+            Ok(()) => Answer::done("", []),
+            Err(refusal) => self.refused(Access { kind: Kind::Store, address, length: size }, refusal),
+        }
     }
 
     pub(super) fn load_span(&mut self, address: Address, length: usize) -> Answer {
@@ -36,21 +38,31 @@ impl Session {
         let mut out = vec![0; length.min(PAGE + 1)];
         match self.memory().load_span(address, &mut out) {
             Ok(()) => Answer::done("", [Fact::Bytes(out.clone())]).and(hex_lines(&out)),
-            Err(refusal) => Answer::refused(refusal, access::why(self.world(), Access { kind: Kind::LoadSpan, address, length }, refusal)),
+            Err(refusal) => self.refused(Access { kind: Kind::LoadSpan, address, length }, refusal),
         }
     }
 
     pub fn store_span(&mut self, address: Address, bytes: &[u8]) -> Answer {
-        let answer = self.memory().store_span(address, bytes);
-        let asked = Access { kind: Kind::StoreSpan, address, length: bytes.len() };
-        self.plain(answer, |world, refusal| access::why(world, asked, refusal))
+        match self.memory().store_span(address, bytes) {
+            Ok(()) => Answer::done("", []),
+            Err(refusal) => self.refused(Access { kind: Kind::StoreSpan, address, length: bytes.len() }, refusal),
+        }
     }
 
     pub(super) fn translate(&mut self, kind: Kind, address: Address, length: usize) -> Answer {
         match self.memory().translate(kind, address, length) {
             Ok(place) => placed(place),
-            Err(refusal) => Answer::refused(refusal, access::why(self.world(), Access { kind, address, length }, refusal)),
+            Err(refusal) => self.refused(Access { kind, address, length }, refusal),
         }
+    }
+
+    /// The answer of an access that was refused: the distance follows the number that has one.
+    fn refused(&self, asked: Access, refusal: Refusal) -> Answer {
+        let mut answer = Answer::refused(refusal, access::why(self.world(), asked, refusal));
+        if let Refusal::Absent { distance } = refusal {
+            answer.facts.push(Fact::Number(distance.into()));
+        }
+        answer
     }
 }
 

@@ -1,6 +1,6 @@
 //! The library's functions with slices, in the shapes of `plain`.
 
-use hekthumar::sys::{self, Place, Value, View};
+use hekthumar::sys::{self, Outcome, Place, Value, View};
 
 // SAFETY, for each function here: each pointer and length is a slice's, and the borrow rules keep a written slice apart from the others.
 
@@ -16,16 +16,16 @@ pub fn fetch(s: &[u8], c: &[u8], p: &[u8], address: u64, size: usize) -> Value {
     unsafe { sys::hekthumar_fetch(s.as_ptr(), s.len(), c.as_ptr(), c.len(), p.as_ptr(), p.len(), address, size) }
 }
 
-pub fn store(s: &[u8], c: &mut [u8], p: &mut [u8], address: u64, size: usize, value: u64) -> u8 {
+pub fn store(s: &[u8], c: &mut [u8], p: &mut [u8], address: u64, size: usize, value: u64) -> Outcome {
     unsafe { sys::hekthumar_store(s.as_ptr(), s.len(), c.as_mut_ptr(), c.len(), p.as_mut_ptr(), p.len(), address, size, value) }
 }
 
-pub fn load_span(s: &[u8], c: &[u8], p: &[u8], address: u64, out: &mut [u8]) -> u8 {
+pub fn load_span(s: &[u8], c: &[u8], p: &[u8], address: u64, out: &mut [u8]) -> Outcome {
     let (at, n) = (out.as_mut_ptr(), out.len());
     unsafe { sys::hekthumar_load_span(s.as_ptr(), s.len(), c.as_ptr(), c.len(), p.as_ptr(), p.len(), address, at, n) }
 }
 
-pub fn store_span(s: &[u8], c: &mut [u8], p: &mut [u8], address: u64, bytes: &[u8]) -> u8 {
+pub fn store_span(s: &[u8], c: &mut [u8], p: &mut [u8], address: u64, bytes: &[u8]) -> Outcome {
     let (at, n) = (bytes.as_ptr(), bytes.len());
     unsafe { sys::hekthumar_store_span(s.as_ptr(), s.len(), c.as_mut_ptr(), c.len(), p.as_mut_ptr(), p.len(), address, at, n) }
 }

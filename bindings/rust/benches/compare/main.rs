@@ -13,6 +13,7 @@ mod plain_headers;
 mod plain_invocations;
 mod plain_lists;
 mod plain_place;
+mod plain_refused;
 mod plain_resize;
 mod plain_search;
 mod plain_view;

@@ -1,9 +1,10 @@
 //! Accesses. Each size of a load, fetch or store has its own code, too.
 
-use crate::plain_headers::{number, vm, ENTRY, PAGE, TABLE};
+use crate::plain_headers::{vm, ENTRY, PAGE, TABLE};
 use crate::plain_place::{find_place, locate, Place, FETCH, LOAD, LOAD_SPAN, STORE, STORE_SPAN};
+use crate::plain_refused::{outcome, Refused};
 use crate::plain_words::u64_at;
-use hekthumar::sys::{self, Value};
+use hekthumar::sys::{self, Outcome, Value};
 
 #[inline(never)]
 pub fn translate(s: &[u8], c: &[u8], p: &[u8], kind: u8, address: u64, length: usize) -> sys::Place {
@@ -13,7 +14,7 @@ pub fn translate(s: &[u8], c: &[u8], p: &[u8], kind: u8, address: u64, length: u
         FETCH => find_place::<FETCH>(s, c, p, address, length),
         LOAD_SPAN => find_place::<LOAD_SPAN>(s, c, p, address, length),
         STORE_SPAN => find_place::<STORE_SPAN>(s, c, p, address, length),
-        _ => vm(s, c, p).and(Err(2)),
+        _ => vm(s, c, p).and(Err(2)).map_err(Refused::from),
     };
     let place = |place, at: usize| sys::Place { at: at as u64, frame: 0, account: 0, page: 0, place, number: 0 };
     match found {
@@ -25,7 +26,10 @@ pub fn translate(s: &[u8], c: &[u8], p: &[u8], kind: u8, address: u64, length: u
             let taken = place(5, PAGE * frame + address as usize % PAGE);
             sys::Place { frame: frame as u16, account: account as u16, page: page as u16, ..taken }
         }
-        Err(number) => sys::Place { number, ..place(0, 0) },
+        Err(refused) => {
+            let Outcome { distance, number } = refused.outcome();
+            sys::Place { number, ..place(0, distance.into()) }
+        }
     }
 }
 
@@ -37,7 +41,7 @@ fn read<const SIZE: usize>(bytes: &[u8], at: usize) -> u64 {
 }
 
 #[inline(always)]
-fn load_sized<const KIND: u8, const SIZE: usize>(s: &[u8], c: &[u8], p: &[u8], address: u64) -> Result<u64, u8> {
+fn load_sized<const KIND: u8, const SIZE: usize>(s: &[u8], c: &[u8], p: &[u8], address: u64) -> Result<u64, Refused> {
     Ok(match locate::<KIND>(s, c, address, SIZE)? {
         Place::Snapshot(at) => read::<SIZE>(s, at),
         Place::Control(at) => read::<SIZE>(c, at),
@@ -47,32 +51,34 @@ fn load_sized<const KIND: u8, const SIZE: usize>(s: &[u8], c: &[u8], p: &[u8], a
 }
 
 #[inline(always)]
-fn load_kind<const KIND: u8>(s: &[u8], c: &[u8], p: &[u8], address: u64, size: usize) -> Result<u64, u8> {
+fn load_kind<const KIND: u8>(s: &[u8], c: &[u8], p: &[u8], address: u64, size: usize) -> Result<u64, Refused> {
     vm(s, c, p)?;
     match size {
         8 => load_sized::<KIND, 8>(s, c, p, address),
         4 => load_sized::<KIND, 4>(s, c, p, address),
         2 => load_sized::<KIND, 2>(s, c, p, address),
         1 => load_sized::<KIND, 1>(s, c, p, address),
-        _ => Err(2),
+        _ => Err(2.into()),
     }
 }
 
 #[inline(always)]
-fn answer(result: Result<u64, u8>) -> Value {
-    match result {
-        Ok(value) => Value { value, number: 0 },
-        Err(number) => Value { value: 0, number },
-    }
+fn answer(result: Result<u64, Refused>) -> Value {
+    let Outcome { distance, number } = outcome(result.map(drop));
+    Value { value: result.unwrap_or(0), distance, number }
 }
 
+// Load and fetch have C's calling convention, which returns the three fields of their answer in registers; Rust's does so through memory.
+
+#[allow(improper_ctypes_definitions)]
 #[inline(never)]
-pub fn load(s: &[u8], c: &[u8], p: &[u8], address: u64, size: usize) -> Value {
+pub extern "C" fn load(s: &[u8], c: &[u8], p: &[u8], address: u64, size: usize) -> Value {
     answer(load_kind::<LOAD>(s, c, p, address, size))
 }
 
+#[allow(improper_ctypes_definitions)]
 #[inline(never)]
-pub fn fetch(s: &[u8], c: &[u8], p: &[u8], address: u64, size: usize) -> Value {
+pub extern "C" fn fetch(s: &[u8], c: &[u8], p: &[u8], address: u64, size: usize) -> Value {
     answer(load_kind::<FETCH>(s, c, p, address, size))
 }
 
@@ -102,31 +108,31 @@ fn target<'a>(s: &[u8], c: &mut [u8], p: &'a mut [u8], place: Place, address: u6
 }
 
 #[inline(always)]
-fn store_sized<const SIZE: usize>(s: &[u8], c: &mut [u8], p: &mut [u8], address: u64, value: u64) -> Result<(), u8> {
+fn store_sized<const SIZE: usize>(s: &[u8], c: &mut [u8], p: &mut [u8], address: u64, value: u64) -> Result<(), Refused> {
     let place = locate::<STORE>(s, c, address, SIZE)?;
     target(s, c, p, place, address, SIZE).copy_from_slice(&value.to_le_bytes()[..SIZE]);
     Ok(())
 }
 
 #[inline(always)]
-fn try_store(s: &[u8], c: &mut [u8], p: &mut [u8], address: u64, size: usize, value: u64) -> Result<(), u8> {
+fn try_store(s: &[u8], c: &mut [u8], p: &mut [u8], address: u64, size: usize, value: u64) -> Result<(), Refused> {
     vm(s, c, p)?;
     match size {
         8 => store_sized::<8>(s, c, p, address, value),
         4 => store_sized::<4>(s, c, p, address, value),
         2 => store_sized::<2>(s, c, p, address, value),
         1 => store_sized::<1>(s, c, p, address, value),
-        _ => Err(2),
+        _ => Err(2.into()),
     }
 }
 
 #[inline(never)]
-pub fn store(s: &[u8], c: &mut [u8], p: &mut [u8], address: u64, size: usize, value: u64) -> u8 {
-    number(try_store(s, c, p, address, size, value))
+pub fn store(s: &[u8], c: &mut [u8], p: &mut [u8], address: u64, size: usize, value: u64) -> Outcome {
+    outcome(try_store(s, c, p, address, size, value))
 }
 
 #[inline(always)]
-fn try_load_span(s: &[u8], c: &[u8], p: &[u8], address: u64, out: &mut [u8]) -> Result<(), u8> {
+fn try_load_span(s: &[u8], c: &[u8], p: &[u8], address: u64, out: &mut [u8]) -> Result<(), Refused> {
     let n = out.len();
     let (bytes, at) = match find_place::<LOAD_SPAN>(s, c, p, address, n)? {
         Place::Snapshot(at) => (s, at),
@@ -142,18 +148,18 @@ fn try_load_span(s: &[u8], c: &[u8], p: &[u8], address: u64, out: &mut [u8]) -> 
 }
 
 #[inline(never)]
-pub fn load_span(s: &[u8], c: &[u8], p: &[u8], address: u64, out: &mut [u8]) -> u8 {
-    number(try_load_span(s, c, p, address, out))
+pub fn load_span(s: &[u8], c: &[u8], p: &[u8], address: u64, out: &mut [u8]) -> Outcome {
+    outcome(try_load_span(s, c, p, address, out))
 }
 
 #[inline(always)]
-fn try_store_span(s: &[u8], c: &mut [u8], p: &mut [u8], address: u64, bytes: &[u8]) -> Result<(), u8> {
+fn try_store_span(s: &[u8], c: &mut [u8], p: &mut [u8], address: u64, bytes: &[u8]) -> Result<(), Refused> {
     let place = find_place::<STORE_SPAN>(s, c, p, address, bytes.len())?;
     target(s, c, p, place, address, bytes.len()).copy_from_slice(bytes);
     Ok(())
 }
 
 #[inline(never)]
-pub fn store_span(s: &[u8], c: &mut [u8], p: &mut [u8], address: u64, bytes: &[u8]) -> u8 {
-    number(try_store_span(s, c, p, address, bytes))
+pub fn store_span(s: &[u8], c: &mut [u8], p: &mut [u8], address: u64, bytes: &[u8]) -> Outcome {
+    outcome(try_store_span(s, c, p, address, bytes))
 }

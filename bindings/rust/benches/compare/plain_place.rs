@@ -1,6 +1,7 @@
 //! Where an access goes. Each kind has its own code: the tests that cannot fail for it are not made.
 
 use crate::plain_headers::{account, vm, Vm, ENTRY, MAX_DATA, PAGE, RECORD, RECORDS};
+use crate::plain_refused::Refused;
 use crate::plain_search::{copy_frame, free_frame, region_frame, tag};
 
 pub const LOAD: u8 = 0;
@@ -42,27 +43,31 @@ fn allowed<const KIND: u8>(permitted: bool, offset: usize, length: usize) -> Res
     Ok(())
 }
 
-/// A row that is never stored to, with the bytes present from its start on.
+/// Whether all bytes of an access lie before the end of those present.
 #[inline(always)]
-fn fixed<const KIND: u8>(fetched: bool, present: usize, offset: usize, length: usize) -> Result<(), u8> {
-    allowed::<KIND>(!stores(KIND) && (fetched || KIND != FETCH), offset, length)?;
-    if offset + length > present {
-        return Err(3);
+fn present(end: usize, offset: usize, length: usize) -> Result<(), Refused> {
+    if offset + length > end {
+        return Err(Refused::absent(end.saturating_sub(offset)));
     }
     Ok(())
 }
 
+/// A row that is never stored to, with the end of the bytes present.
 #[inline(always)]
-fn in_data<const KIND: u8>(s: &[u8], c: &[u8], v: &Vm, index: usize, offset: usize, length: usize) -> Result<Place, u8> {
+fn fixed<const KIND: u8>(fetched: bool, end: usize, offset: usize, length: usize) -> Result<(), Refused> {
+    allowed::<KIND>(!stores(KIND) && (fetched || KIND != FETCH), offset, length)?;
+    present(end, offset, length)
+}
+
+#[inline(always)]
+fn in_data<const KIND: u8>(s: &[u8], c: &[u8], v: &Vm, index: usize, offset: usize, length: usize) -> Result<Place, Refused> {
     if index >= v.accounts() {
-        return Err(4);
+        return Err(4.into());
     }
     let a = account(s, v.data_at(), index)?;
     let owned = a.flags & 2 != 0 && a.owner == v.program();
     allowed::<KIND>(KIND != FETCH && (!stores(KIND) || owned), offset, length)?;
-    if offset + length > a.length {
-        return Err(3);
-    }
+    present(a.length, offset, length)?;
     let page = offset / PAGE;
     match copy_frame(c, index, page) {
         Some(frame) => Ok(Place::Pool(PAGE * frame + offset % PAGE)),
@@ -71,25 +76,26 @@ fn in_data<const KIND: u8>(s: &[u8], c: &[u8], v: &Vm, index: usize, offset: usi
     }
 }
 
+/// A page of a region is there whole or not at all: where a byte is absent, the first one is.
 #[inline(always)]
-fn in_region<const KIND: u8>(c: &[u8], v: &Vm, region: u8, offset: usize, length: usize) -> Result<Place, u8> {
+fn in_region<const KIND: u8>(c: &[u8], v: &Vm, region: u8, offset: usize, length: usize) -> Result<Place, Refused> {
     allowed::<KIND>(KIND != FETCH, offset, length)?;
     let bytes = PAGE * v.pages(region);
     let present = if region == 2 { offset >= MAX_DATA - bytes && offset + length <= MAX_DATA } else { offset + length <= bytes };
     if !present {
-        return Err(3);
+        return Err(Refused::absent(0));
     }
     let frame = region_frame(c, region, offset / PAGE).ok_or(1)?;
     if stores(KIND) && tag(c, frame) < v.depth() {
-        return Err(7);
+        return Err(7.into());
     }
     Ok(Place::Pool(PAGE * frame + offset % PAGE))
 }
 
 #[inline(always)]
-fn in_metadata<const KIND: u8>(s: &[u8], v: &Vm, index: usize, offset: usize, length: usize) -> Result<Place, u8> {
+fn in_metadata<const KIND: u8>(s: &[u8], v: &Vm, index: usize, offset: usize, length: usize) -> Result<Place, Refused> {
     if index >= v.accounts() {
-        return Err(4);
+        return Err(4.into());
     }
     let a = account(s, v.data_at(), index)?;
     fixed::<KIND>(false, 64, offset, length)?;
@@ -97,23 +103,23 @@ fn in_metadata<const KIND: u8>(s: &[u8], v: &Vm, index: usize, offset: usize, le
 }
 
 #[inline(always)]
-fn in_program<const KIND: u8>(s: &[u8], v: &Vm, offset: usize, length: usize) -> Result<Place, u8> {
+fn in_program<const KIND: u8>(s: &[u8], v: &Vm, offset: usize, length: usize) -> Result<Place, Refused> {
     let a = account(s, v.data_at(), v.program() as usize)?;
     fixed::<KIND>(true, a.length, offset, length)?;
     Ok(Place::Snapshot(a.data + offset))
 }
 
 #[inline(always)]
-fn in_contexts<const KIND: u8>(v: &Vm, offset: usize, length: usize) -> Result<Place, u8> {
+fn in_contexts<const KIND: u8>(v: &Vm, offset: usize, length: usize) -> Result<Place, Refused> {
     let (block, rest) = (offset / PAGE, offset % PAGE);
-    let present = if block < v.contexts() { PAGE * block + 120 } else { 0 };
-    fixed::<KIND>(false, present, offset, length)?;
+    let end = if block < v.contexts() { PAGE * block + 120 } else { 0 };
+    fixed::<KIND>(false, end, offset, length)?;
     Ok(Place::Snapshot(v.contexts_at() + 120 * block + rest))
 }
 
 /// The place of an access whose headers and length are valid. Set upper bits match no segment, so they are looked at last.
 #[inline(always)]
-pub fn locate<const KIND: u8>(s: &[u8], c: &[u8], address: u64, length: usize) -> Result<Place, u8> {
+pub fn locate<const KIND: u8>(s: &[u8], c: &[u8], address: u64, length: usize) -> Result<Place, Refused> {
     let v = &Vm::of(s, c).ok_or(1)?;
     let (index, offset) = ((address >> 24) as usize & 0xFFFF, address as usize & 0xFF_FFFF);
     match (address >> 40, index) {
@@ -128,17 +134,17 @@ pub fn locate<const KIND: u8>(s: &[u8], c: &[u8], address: u64, length: usize) -
         (0, 3) => in_program::<KIND>(s, v, offset, length),
         (0, 4) => in_contexts::<KIND>(v, offset, length),
         (2, _) => in_metadata::<KIND>(s, v, index, offset, length),
-        _ => Err(if address >> 48 != 0 { 3 } else { 4 }),
+        _ => Err(Refused::from(if address >> 48 != 0 { 3 } else { 4 })),
     }
 }
 
 /// The place of an access.
 #[inline(always)]
-pub fn find_place<const KIND: u8>(s: &[u8], c: &[u8], p: &[u8], address: u64, length: usize) -> Result<Place, u8> {
+pub fn find_place<const KIND: u8>(s: &[u8], c: &[u8], p: &[u8], address: u64, length: usize) -> Result<Place, Refused> {
     vm(s, c, p)?;
     let valid = if is_span(KIND) { (1..=PAGE).contains(&length) } else { matches!(length, 1 | 2 | 4 | 8) };
     if !valid {
-        return Err(2);
+        return Err(2.into());
     }
     locate::<KIND>(s, c, address, length)
 }

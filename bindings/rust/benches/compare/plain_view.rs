@@ -15,7 +15,7 @@ fn find_view(s: &[u8], c: &[u8], p: &[u8], index: usize, page: usize) -> Result<
     }
     let a = account(s, v.data_at(), index)?;
     if PAGE * page >= a.length {
-        return Err(3);
+        return Err(13);
     }
     let length = (a.length - PAGE * page).min(PAGE) as u64;
     Ok(match copy_frame(c, index, page) {

@@ -58,7 +58,7 @@ impl World {
     /// Takes copies of the slots' pages, in this order.
     pub fn copied(mut self, pages: impl Iterator<Item = usize>) -> World {
         for page in pages {
-            assert_eq!(library::store(&self.s, &mut self.c, &mut self.p, slot(PAGE * page), 8, page as u64), 0);
+            assert_eq!(library::store(&self.s, &mut self.c, &mut self.p, slot(PAGE * page), 8, page as u64).number, 0);
         }
         self
     }

@@ -1,11 +1,12 @@
-//! Which refusals each kind of call can give by document 01, and which were seen.
+//! Which refusals each kind of call can give by the papers, and which were seen.
 
 use std::collections::BTreeMap;
 
+use crate::absences::Absences;
 use crate::interface::{Answer, Call, KINDS, NAMES};
 use crate::model::Why;
 
-pub const NUMBERS: usize = 13;
+pub const NUMBERS: usize = 14;
 
 /// "1 for headers, buffer lengths and frame D"
 const FIRST: [Why; 4] = [Why::Snapshot, Why::Control, Why::Pool, Why::Record];
@@ -16,7 +17,7 @@ const REACH: [Why; 6] = [Why::Length, Why::UpperBits, Why::NoSegment, Why::NoAcc
 const STORE: [Why; 3] = [Why::Forbidden, Why::Tag, Why::NoFreeFrame];
 const PROGRAM: [Why; 3] = [Why::NoAccount, Why::Entry, Why::AbsentProgram];
 
-/// The refusals that document 01 names for each kind of call, in the order of `NAMES`. Loads are allowed in every row, so they give no
+/// The refusals that the papers name for each kind of call, in the order of `NAMES`. Loads are allowed in every row, so they give no
 /// 7 and no 8. A fetch gives 7 outside 0/3, so it never asks for the frame of a stack or heap page.
 fn possible(kind: usize) -> Vec<Why> {
     use Why::*;
@@ -47,6 +48,7 @@ pub struct Coverage {
     reasons: BTreeMap<(usize, Why), u64>,
     /// How often a translation answered each place.
     places: [u64; 6],
+    absences: Absences,
     pub histories: u64,
     pub calls: u64,
 }
@@ -61,9 +63,10 @@ impl Coverage {
         if let Answer::Place(place) = answer {
             self.places[usize::from(place.place)] += 1;
         }
+        self.absences.record(call, answer);
     }
 
-    /// What document 01 names and was never seen, and what was seen and document 01 does not name.
+    /// What the papers name and was never seen, and what was seen and the papers do not name.
     pub fn faults(&self) -> Vec<String> {
         let mut faults = vec![];
         for (kind, name) in NAMES.iter().enumerate() {
@@ -81,6 +84,7 @@ impl Coverage {
         }
         let unseen = |place: &usize| self.places[*place] == 0;
         faults.extend((0..6).filter(unseen).map(|place| format!("translate never answered place {place}")));
+        faults.extend(self.absences.faults());
         faults
     }
 
@@ -98,5 +102,6 @@ impl Coverage {
             let text: Vec<String> = seen.map(|((_, why), count)| format!("{why:?} {count}")).collect();
             println!("{name}: {}", text.join(", "));
         }
+        self.absences.print();
     }
 }

@@ -2,7 +2,7 @@
 
 use std::fmt;
 
-use hekthumar::sys::{Fields, Joined, Place, Value, View};
+use hekthumar::sys::{Fields, Joined, Outcome, Place, Value, View};
 
 /// The three lent buffers.
 #[derive(Clone, PartialEq, Eq)]
@@ -119,6 +119,7 @@ pub enum Answer {
     Joined(Joined),
     Fields(Fields),
     Value(Value),
+    Outcome(Outcome),
     Place(Place),
     View(View),
 }
@@ -130,8 +131,19 @@ impl Answer {
             Answer::Joined(joined) => joined.number,
             Answer::Fields(fields) => fields.number,
             Answer::Value(value) => value.number,
+            Answer::Outcome(outcome) => outcome.number,
             Answer::Place(place) => place.number,
             Answer::View(view) => view.number,
+        }
+    }
+
+    /// The distance that an access tells, and translation for it; none where the answer has no place for one.
+    pub fn distance(&self) -> Option<u64> {
+        match self {
+            Answer::Value(value) => Some(value.distance.into()),
+            Answer::Outcome(outcome) => Some(outcome.distance.into()),
+            Answer::Place(place) => (place.place == 0).then_some(place.at),
+            _ => None,
         }
     }
 }

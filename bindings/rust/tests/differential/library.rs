@@ -27,14 +27,14 @@ pub fn run(world: &mut World, call: &mut Call) -> Answer {
             Call::Translate { kind, address, length } => Answer::Place(hekthumar_translate(s, sl, c, cl, p, pl, *kind, *address, *length)),
             Call::Load { address, size } => Answer::Value(hekthumar_load(s, sl, c, cl, p, pl, *address, *size)),
             Call::Fetch { address, size } => Answer::Value(hekthumar_fetch(s, sl, c, cl, p, pl, *address, *size)),
-            Call::Store { address, size, value } => Answer::Number(hekthumar_store(s, sl, c, cl, p, pl, *address, *size, *value)),
+            Call::Store { address, size, value } => Answer::Outcome(hekthumar_store(s, sl, c, cl, p, pl, *address, *size, *value)),
             Call::LoadSpan { address, out } => {
                 let (out, length) = write(&mut out.0);
-                Answer::Number(hekthumar_load_span(s, sl, c, cl, p, pl, *address, out, length))
+                Answer::Outcome(hekthumar_load_span(s, sl, c, cl, p, pl, *address, out, length))
             }
             Call::StoreSpan { address, bytes } => {
                 let (bytes, length) = read(&bytes.0);
-                Answer::Number(hekthumar_store_span(s, sl, c, cl, p, pl, *address, bytes, length))
+                Answer::Outcome(hekthumar_store_span(s, sl, c, cl, p, pl, *address, bytes, length))
             }
             Call::Invoke { program, registers } => {
                 let (registers, length) = read(&registers.0);

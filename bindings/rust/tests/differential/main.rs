@@ -1,4 +1,4 @@
-//! The library against an independent model of document 01, call by call, and against the paper's replay, history by history.
+//! The library against an independent model of the papers' rules, call by call, and against the paper's replay, history by history.
 //!
 //! A normal run takes a fixed list of seeds and one fresh seed, which is printed. Two environment variables change it:
 //!
@@ -7,10 +7,12 @@
 //!
 //! `cargo test --test differential -- --nocapture` prints the coverage, and after how many histories each planted bug was told apart.
 
+mod absences;
 mod bytes;
 mod calls;
 mod coverage;
 mod damage;
+mod distances;
 mod history;
 mod interface;
 mod library;

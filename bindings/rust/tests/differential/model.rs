@@ -1,14 +1,15 @@
-//! Document 01 in plain safe Rust over the raw buffers, written for clarity alone. Each rule cites the paper's sentence.
+//! The papers' rules in plain safe Rust over the raw buffers, written for clarity alone. Each rule cites the paper's sentence.
 
 mod access;
 mod bug;
 mod control;
 mod invocation;
 mod list;
+mod presence;
 pub mod snapshot;
 mod why;
 
-use hekthumar::sys::{Fields, Joined, Place, Value, View};
+use hekthumar::sys::{Fields, Joined, Outcome, Place, Value, View};
 
 pub use bug::Bug;
 pub use why::Why;
@@ -17,6 +18,7 @@ use crate::bytes::{number, MAX_DATA, PAGE};
 use crate::interface::{Answer, Call, World};
 use access::{Kind, Spot};
 use list::Part;
+use why::Refusal;
 
 /// The buffers of one call, and the planted mistake if there is one.
 struct Vm<'a> {
@@ -34,17 +36,15 @@ impl Vm<'_> {
 pub fn run(world: &mut World, call: &mut Call, bug: Option<Bug>) -> (Answer, Option<Why>) {
     let mut vm = Vm { world, bug };
     match call {
-        Call::Join { segment, index, offset } => answer(join(*segment, *index, *offset), Answer::Joined),
-        Call::Split { address } => answer(split(*address), Answer::Fields),
+        Call::Join { segment, index, offset } => answer(join(*segment, *index, *offset, bug), Answer::Joined),
+        Call::Split { address } => answer(split(*address, bug), Answer::Fields),
         Call::Begin { program } => done(vm.begin(*program)),
-        Call::Translate { kind, address, length } => {
-            answer(vm.translate(Kind::from_code(*kind), *address, *length).map(place), Answer::Place)
-        }
-        Call::Load { address, size } => answer(vm.load(Kind::Load, *address, *size).map(value), Answer::Value),
-        Call::Fetch { address, size } => answer(vm.load(Kind::Fetch, *address, *size).map(value), Answer::Value),
-        Call::Store { address, size, value } => done(store(&mut vm, *address, *size, *value)),
-        Call::LoadSpan { address, out } => done(load_span(&vm, *address, &mut out.0)),
-        Call::StoreSpan { address, bytes } => done(vm.store(Kind::StoreSpan, *address, &bytes.0)),
+        Call::Translate { kind, address, length } => answer(translate(&vm, *kind, *address, *length), Answer::Place),
+        Call::Load { address, size } => answer(load(&vm, Kind::Load, *address, *size), Answer::Value),
+        Call::Fetch { address, size } => answer(load(&vm, Kind::Fetch, *address, *size), Answer::Value),
+        Call::Store { address, size, value } => answer(store(&mut vm, *address, *size, *value), Answer::Outcome),
+        Call::LoadSpan { address, out } => answer(load_span(&vm, *address, &mut out.0), Answer::Outcome),
+        Call::StoreSpan { address, bytes } => answer(store_span(&mut vm, *address, &bytes.0), Answer::Outcome),
         Call::Invoke { program, registers } => done(vm.call(*program, &registers.0)),
         Call::Return { registers } => done(vm.return_(&mut registers.0)),
         Call::Resize { region, pages } => done(vm.resize(*region, *pages)),
@@ -58,91 +58,120 @@ fn done(result: Result<(), Why>) -> (Answer, Option<Why>) {
     (Answer::Number(result.err().map_or(0, Why::number)), result.err())
 }
 
-/// An answer that is all zeros but for its number when it is a refusal.
+/// An answer that is all zeros but for its number, and for the distance where it has a place for one, when it is a refusal.
 trait Refused {
-    fn refused(number: u8) -> Self;
+    fn refused(number: u8, distance: u16) -> Self;
 }
 
 /// "Every number but 0 changes nothing; a value is then 0 and a view is empty."
-fn answer<T: Refused>(result: Result<T, Why>, wrap: fn(T) -> Answer) -> (Answer, Option<Why>) {
-    match result {
+fn answer<T: Refused>(result: Result<T, impl Into<Refusal>>, wrap: fn(T) -> Answer) -> (Answer, Option<Why>) {
+    match result.map_err(Into::into) {
         Ok(content) => (wrap(content), None),
-        Err(why) => (wrap(T::refused(why.number())), Some(why)),
+        Err(Refusal { why, distance }) => (wrap(T::refused(why.number(), distance)), Some(why)),
     }
 }
 
 impl Refused for Joined {
-    fn refused(number: u8) -> Joined {
+    fn refused(number: u8, _: u16) -> Joined {
         Joined { address: 0, number }
     }
 }
 
 impl Refused for Fields {
-    fn refused(number: u8) -> Fields {
+    fn refused(number: u8, _: u16) -> Fields {
         Fields { offset: 0, index: 0, segment: 0, number }
     }
 }
 
 impl Refused for Value {
-    fn refused(number: u8) -> Value {
-        Value { value: 0, number }
+    fn refused(number: u8, distance: u16) -> Value {
+        Value { value: 0, distance, number }
     }
 }
 
+impl Refused for Outcome {
+    fn refused(number: u8, distance: u16) -> Outcome {
+        Outcome { distance, number }
+    }
+}
+
+/// A refused translation has its distance in `at`.
 impl Refused for Place {
-    fn refused(number: u8) -> Place {
-        Place { at: 0, frame: 0, account: 0, page: 0, place: 0, number }
+    fn refused(number: u8, distance: u16) -> Place {
+        Place { at: distance.into(), frame: 0, account: 0, page: 0, place: 0, number }
     }
 }
 
+/// The view is no access and has no distance.
 impl Refused for View {
-    fn refused(number: u8) -> View {
+    fn refused(number: u8, _: u16) -> View {
         View { start: 0, length: 0, holder: 0, number }
     }
 }
 
 /// "it refuses an offset of 2^24 or more with 3 (and gives 0)"
-fn join(segment: u8, index: u16, offset: u32) -> Result<Joined, Why> {
+fn join(segment: u8, index: u16, offset: u32, bug: Option<Bug>) -> Result<Joined, Why> {
     if offset as usize >= MAX_DATA {
-        return Err(Why::WideOffset);
+        return Err(if bug == Some(Bug::JoinToldThirteen) { Why::NotPresent } else { Why::WideOffset });
     }
     Ok(Joined { address: u64::from(segment) << 40 | u64::from(index) << 24 | u64::from(offset), number: 0 })
 }
 
 /// "Splitting refuses set upper bits with 3 and gives zero fields."
-fn split(address: u64) -> Result<Fields, Why> {
+fn split(address: u64, bug: Option<Bug>) -> Result<Fields, Why> {
     if address >> 48 != 0 {
-        return Err(Why::UpperBits);
+        return Err(if bug == Some(Bug::SplitToldThirteen) { Why::NotPresent } else { Why::UpperBits });
     }
     Ok(Fields { offset: (address & 0xFF_FFFF) as u32, index: (address >> 24) as u16, segment: (address >> 40) as u8, number: 0 })
 }
 
-/// "a load as their little-endian number"
-fn value(bytes: Vec<u8>) -> Value {
-    Value { value: number(&bytes), number: 0 }
-}
-
-/// "a store writes the low bytes of its value"; a size that is no size is refused before any byte of the value counts.
-fn store(vm: &mut Vm, address: u64, size: usize, value: u64) -> Result<(), Why> {
-    match value.to_le_bytes().get(..size) {
-        Some(bytes) => vm.store(Kind::Store, address, bytes),
-        None => vm.translate(Some(Kind::Store), address, size).map(|_| ()),
+/// Translation answers for an access, so it gives the same number and the same distance.
+fn translate(vm: &Vm, kind: u8, address: u64, length: usize) -> Result<Place, Refusal> {
+    match vm.translate(Kind::from_code(kind), address, length) {
+        Err(refusal) if vm.has(Bug::TranslationLosesDistance) => Err(refusal.why.into()),
+        answer => answer.map(place),
     }
 }
 
+/// "a load as their little-endian number"
+fn load(vm: &Vm, kind: Kind, address: u64, size: usize) -> Result<Value, Refusal> {
+    let bytes = vm.load(kind, address, size)?;
+    let Outcome { distance, .. } = accepted(vm, size);
+    Ok(Value { value: number(&bytes), distance, number: 0 })
+}
+
+/// "a store writes the low bytes of its value"; a size that is no size is refused before any byte of the value counts.
+fn store(vm: &mut Vm, address: u64, size: usize, value: u64) -> Result<Outcome, Refusal> {
+    match value.to_le_bytes().get(..size) {
+        Some(bytes) => vm.store(Kind::Store, address, bytes)?,
+        None => vm.translate(Some(Kind::Store), address, size).map(|_| ())?,
+    }
+    Ok(accepted(vm, size))
+}
+
 /// A refused span load leaves its buffer as it was.
-fn load_span(vm: &Vm, address: u64, out: &mut [u8]) -> Result<(), Why> {
+fn load_span(vm: &Vm, address: u64, out: &mut [u8]) -> Result<Outcome, Refusal> {
     let loaded = vm.load(Kind::LoadSpan, address, out.len());
     match &loaded {
         Ok(bytes) => out.copy_from_slice(bytes),
         Err(_) if vm.has(Bug::RefusedSpanClearsBuffer) => out.fill(0),
         Err(_) => {}
     }
-    loaded.map(|_| ())
+    loaded.map(|bytes| accepted(vm, bytes.len()))
+}
+
+fn store_span(vm: &mut Vm, address: u64, bytes: &[u8]) -> Result<Outcome, Refusal> {
+    vm.store(Kind::StoreSpan, address, bytes)?;
+    Ok(accepted(vm, bytes.len()))
+}
+
+/// An accepted access has no absent byte: its distance is 0.
+fn accepted(vm: &Vm, length: usize) -> Outcome {
+    Outcome { distance: if vm.has(Bug::DistanceWhenDone) { length as u16 } else { 0 }, number: 0 }
 }
 
 fn place(spot: Spot) -> Place {
-    let nowhere = Place::refused(0);
+    let nowhere = Place::refused(0, 0);
     match spot {
         Spot::Snapshot(at) => Place { at: at as u64, place: 1, ..nowhere },
         Spot::Control(at) => Place { at: at as u64, place: 2, ..nowhere },

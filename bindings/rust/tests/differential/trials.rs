@@ -1,5 +1,5 @@
-//! Document 01's "Trials at the edges", given to the library and to the model: here the expected numbers are the paper's own, so that
-//! the two cannot agree on a wrong one.
+//! Document 01's "Trials at the edges", given to the library and to the model: here the expected numbers are the papers' own, so that
+//! the two cannot agree on a wrong one. Where a trial's byte is not present, 02 makes the number 13, and the first byte is the absent one.
 
 use hekthumar::sys::{Fields, Joined};
 
@@ -9,19 +9,19 @@ use crate::library;
 use crate::model;
 
 const ACCOUNTS: usize = 6;
-const TRANSACTION: usize = 0x48;
+const TRANSACTION: usize = 0x4D;
 const DATA: usize = 6000;
 
-/// Account 5 has 6,000 bytes that the program, account 5 too, owns and may write; the others do not exist.
-fn world(contexts: usize) -> World {
+/// Account 5 has this many bytes, which the program, account 5 too, owns and may write; the others do not exist.
+fn world(contexts: usize, length: usize) -> World {
     let contexts_at = SNAPSHOT_HEADER + ACCOUNT_ENTRY * ACCOUNTS;
     let transaction_at = contexts_at + CONTEXT * contexts;
     let data_at = transaction_at + TRANSACTION;
     let mut snapshot = vec![0; data_at];
-    snapshot.extend((0..DATA).map(original));
+    snapshot.extend((0..length).map(original));
     let total = snapshot.len();
     let header = [ACCOUNTS, contexts, TRANSACTION, SNAPSHOT_HEADER, contexts_at, transaction_at, data_at, total];
-    let entry = [5 << 16 | 3, DATA, data_at, 0];
+    let entry = [5 << 16 | 3, length, data_at, 0];
     for (word, value) in header.into_iter().enumerate() {
         put_u32(&mut snapshot, 4 * word, value as u32);
     }
@@ -35,20 +35,29 @@ fn original(place: usize) -> u8 {
     (place % 251) as u8
 }
 
-/// Gives the call to both, which must answer this number, and hands back the call with its lent buffers.
-fn expect(world: &mut World, call: Call, number: u8) -> Call {
+/// Gives the call to both, which must answer this number and this distance, and hands back the call with its lent buffers.
+pub fn expect_with(world: &mut World, call: Call, number: u8, distance: u64) -> Call {
+    let told = |answer: Answer| (answer.number(), answer.distance().unwrap_or(0));
     let (mut by_library, mut by_model) = (call.clone(), call);
     let (answer, _) = model::run(&mut world.clone(), &mut by_model, None);
-    assert_eq!(answer.number(), number, "model: {}", by_model.describe());
+    assert_eq!(told(answer), (number, distance), "model: {}", by_model.describe());
     let answer = library::run(world, &mut by_library);
-    assert_eq!(answer.number(), number, "library: {}", by_library.describe());
+    assert_eq!(told(answer), (number, distance), "library: {}", by_library.describe());
     by_library
 }
 
-fn begun(contexts: usize) -> World {
-    let mut world = world(contexts);
+pub fn expect(world: &mut World, call: Call, number: u8) -> Call {
+    expect_with(world, call, number, 0)
+}
+
+pub fn begun_with(contexts: usize, length: usize) -> World {
+    let mut world = world(contexts, length);
     expect(&mut world, Call::Begin { program: 5 }, 0);
     world
+}
+
+fn begun(contexts: usize) -> World {
+    begun_with(contexts, DATA)
 }
 
 fn load(world: &mut World, address: u64, size: usize, number: u8) {
@@ -63,13 +72,13 @@ fn addresses() {
         let fields = Answer::Fields(Fields { offset, index, segment, number: 0 });
         let joined = Answer::Joined(Joined { address, number: 0 });
         for (mut call, answer) in [(Call::Split { address }, fields), (Call::Join { segment, index, offset }, joined)] {
-            assert_eq!(library::run(&mut world(0), &mut call), answer);
-            assert_eq!(model::run(&mut world(0), &mut call, None).0, answer);
+            assert_eq!(library::run(&mut world(0, DATA), &mut call), answer);
+            assert_eq!(model::run(&mut world(0, DATA), &mut call, None).0, answer);
         }
     }
     let mut world = begun(0);
     expect(&mut world, Call::Resize { region: STACK, pages: 1 }, 0);
-    load(&mut world, 0x0500_0000_1000, 1, 3);
+    load(&mut world, 0x0500_0000_1000, 1, 13);
     load(&mut world, 0x0001_0000_0000_0000, 1, 3);
     load(&mut world, 0, 1, 4);
 }
@@ -78,7 +87,7 @@ fn addresses() {
 fn account_data() {
     let mut world = begun(0);
     let base = 0x0300_0500_0000;
-    for (offset, size, number) in [(4088, 8, 0), (4093, 8, 5), (5992, 8, 0), (6000, 8, 3)] {
+    for (offset, size, number) in [(4088, 8, 0), (4093, 8, 5), (5992, 8, 0), (6000, 8, 13)] {
         load(&mut world, base + offset, size, number);
     }
     expect(&mut world, Call::LoadSpan { address: base + 4093, out: Bytes(vec![0; 8]) }, 6);
@@ -88,17 +97,17 @@ fn account_data() {
 fn contexts_shadow_and_regions() {
     let mut world = begun(1);
     load(&mut world, 0x0000_0400_0070, 8, 0);
-    load(&mut world, 0x0000_0400_0078, 1, 3);
+    load(&mut world, 0x0000_0400_0078, 1, 13);
     load(&mut world, 0x0000_0200_0000 + 4480, 8, 0);
-    load(&mut world, 0x0000_0200_0000 + 4488, 1, 3);
+    load(&mut world, 0x0000_0200_0000 + 4488, 1, 13);
     expect(&mut world, Call::Resize { region: STACK, pages: 1 }, 0);
     expect(&mut world, Call::Resize { region: HEAP, pages: 1 }, 0);
-    for (address, number) in [(0x0500_00FF_F000, 0), (0x0500_00FF_EFFF, 3), (0x0700_0000_0FFF, 0), (0x0700_0000_1000, 3)] {
+    for (address, number) in [(0x0500_00FF_F000, 0), (0x0500_00FF_EFFF, 13), (0x0700_0000_0FFF, 0), (0x0700_0000_1000, 13)] {
         load(&mut world, address, 1, number);
     }
     let mut many = begun(512);
     load(&mut many, 0x0000_041F_F000, 1, 0);
-    load(&mut many, 0x0000_0420_0000, 1, 3);
+    load(&mut many, 0x0000_0420_0000, 1, 13);
 }
 
 #[test]

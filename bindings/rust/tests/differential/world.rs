@@ -22,8 +22,9 @@ pub enum Size {
     TooManyFrames,
 }
 
-/// Lengths of data around the edges of pages.
-pub const LENGTHS: [usize; 16] = [0, 1, 7, 8, 100, 4088, 4095, 4096, 4097, 6000, 8191, 8192, 8193, 12_288, 16_384, 20_000];
+/// Lengths of data around the edges of pages. They leave every remainder by 8, so that a value can go past the end at each of its bytes.
+pub const LENGTHS: [usize; 20] =
+    [0, 1, 5, 7, 8, 100, 4088, 4090, 4094, 4095, 4096, 4097, 6000, 6003, 8191, 8192, 8193, 12_288, 16_384, 20_000];
 
 /// An account that is to be laid out.
 struct Plan {

@@ -28,7 +28,7 @@ module _ (c : List ℕ) (a : Account) (q : Page) (e : AccountEntry) {n m : ℕ} 
   count = sym (live ∙ rw size)
 
   -- none is
-  absent : m < 1 → Refused Absent ≡ viewOfEntry c a q e
+  absent : m < 1 → Refused (Absent 0) ≡ viewOfEntry c a q e
   unfolding viewOfEntry need
   absent l = rw (count, lt-leb _ _ l)
 

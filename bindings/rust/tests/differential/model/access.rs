@@ -3,7 +3,7 @@
 use super::bug::Bug;
 use super::control::FrameEntry;
 use super::snapshot::{Entry, Header};
-use super::why::Why;
+use super::why::{Refusal, Why};
 use super::Vm;
 use crate::bytes::*;
 
@@ -21,18 +21,18 @@ impl Kind {
         [Kind::Load, Kind::Store, Kind::Fetch, Kind::LoadSpan, Kind::StoreSpan].get(usize::from(code)).copied()
     }
 
-    fn is_span(self) -> bool {
+    pub fn is_span(self) -> bool {
         matches!(self, Kind::LoadSpan | Kind::StoreSpan)
     }
 
-    fn is_store(self) -> bool {
+    pub fn is_store(self) -> bool {
         matches!(self, Kind::Store | Kind::StoreSpan)
     }
 }
 
 /// The rows of the table of segments.
 #[derive(Clone, Copy, PartialEq, Eq)]
-enum Segment {
+pub enum Segment {
     Transaction,
     Shadow,
     Program,
@@ -43,14 +43,14 @@ enum Segment {
 }
 
 /// An access past the first 1, 2, 3 and 4, with the entry of the account concerned.
-struct Access {
-    kind: Kind,
-    segment: Segment,
-    index: u16,
-    offset: usize,
-    length: usize,
-    header: Header,
-    entry: Option<Entry>,
+pub struct Access {
+    pub kind: Kind,
+    pub segment: Segment,
+    pub index: u16,
+    pub offset: usize,
+    pub length: usize,
+    pub header: Header,
+    pub entry: Option<Entry>,
 }
 
 impl Access {
@@ -59,7 +59,7 @@ impl Access {
     }
 
     /// Length of the data of the account concerned.
-    fn data_length(&self) -> usize {
+    pub fn data_length(&self) -> usize {
         self.entry.map_or(0, |entry| entry.length)
     }
 }
@@ -85,13 +85,13 @@ pub enum Spot {
 }
 
 impl Vm<'_> {
-    pub fn translate(&self, kind: Option<Kind>, address: u64, length: usize) -> Result<Spot, Why> {
+    pub fn translate(&self, kind: Option<Kind>, address: u64, length: usize) -> Result<Spot, Refusal> {
         // "Order for an access: 1 for headers, buffer lengths and frame D ...; 2; 3 for upper bits; 4; 1 for the entry ..."
         let header = self.valid()?;
         let kind = kind.ok_or(Why::UnknownKind)?;
         self.check_length(kind, length)?;
         if address >> 48 != 0 && !self.has(Bug::UpperBitsIgnored) {
-            return Err(Why::UpperBits);
+            return Err(if self.has(Bug::UpperBitsToldThirteen) { Why::NotPresent } else { Why::UpperBits }.into());
         }
         // "Of the 48 bits, 47..40 are type, 39..24 index, 23..0 offset."
         let (code, index, offset) = ((address >> 40) as u8, (address >> 24) as u16, (address & 0xFF_FFFF) as usize);
@@ -99,10 +99,8 @@ impl Vm<'_> {
         let segment = segment(&header, code, index)?;
         let entry = self.entry_concerned(&header, segment, index)?;
         let access = Access { kind, segment, index, offset, length, header, entry };
-        for step in self.order() {
-            self.check(*step, &access)?;
-        }
-        self.spot(&access)
+        let checked = self.order().iter().try_for_each(|step| self.check(*step, &access));
+        checked.and_then(|()| self.spot(&access)).map_err(|why| self.refusal(&access, why))
     }
 
     /// "Loads, stores and fetches have size 1, 2, 4 or 8"; "A span load or span store moves 1 to 4,096 bytes"
@@ -125,7 +123,7 @@ impl Vm<'_> {
         self.entry(header, account).map(Some)
     }
 
-    /// "5; 7 by the table's fixed, account and fetch rules; 6; 3 for presence"
+    /// "5; 7 by the table's fixed, account and fetch rules; 6; 3 for presence", which is 13 "in the same places of the order"
     fn order(&self) -> &[Step] {
         use Step::*;
         match self.bug {
@@ -142,6 +140,7 @@ impl Vm<'_> {
             Step::Alignment => (self.is_aligned(access), Why::Misaligned),
             Step::Permission => (self.is_permitted(access), Why::Forbidden),
             Step::Crossing => (access.offset % PAGE + access.length <= PAGE, Why::Crossing),
+            Step::Presence if self.has(Bug::AbsentToldThree) => (self.is_present(access), Why::UpperBits),
             Step::Presence => (self.is_present(access), Why::NotPresent),
             Step::Frame => (self.has_frame(access), Why::NoFreeFrame),
         };
@@ -181,36 +180,10 @@ impl Vm<'_> {
         }
     }
 
-    /// Every byte of the access is asked.
-    fn is_present(&self, access: &Access) -> bool {
-        let asked = if self.has(Bug::PresenceOfFirstByteOnly) { 1 } else { access.length };
-        (access.offset..access.offset + asked).all(|offset| self.byte_is_present(access, offset))
-    }
-
     /// A store to account data has a frame, or one to take.
     fn has_frame(&self, access: &Access) -> bool {
         let needed = access.segment == Segment::Data && access.kind.is_store();
         !needed || self.claim_of_copy(access.index, access.page()).is_some() || !self.free_frames().is_empty()
-    }
-
-    /// The column "Bytes present".
-    fn byte_is_present(&self, access: &Access, offset: usize) -> bool {
-        match access.segment {
-            Segment::Transaction => offset < access.header.transaction,
-            Segment::Shadow => offset < TABLE_AT - RECORDS_AT,
-            Segment::Program | Segment::Data => offset < access.data_length(),
-            // "offset/4,096 below B and remainder below 120"
-            Segment::Context => {
-                offset / PAGE < access.header.contexts && (offset % PAGE < CONTEXT || self.has(Bug::ContextRemainderUntested))
-            }
-            Segment::Metadata => offset < METADATA,
-            // "top n stack pages: offsets from 2^24-4,096n"
-            Segment::Region(STACK) if !self.has(Bug::StackFromBottom) => {
-                (MAX_DATA - PAGE * self.region_size(STACK)..MAX_DATA).contains(&offset)
-            }
-            // "lowest n heap pages"
-            Segment::Region(region) => offset < PAGE * self.region_size(region),
-        }
     }
 
     fn spot(&self, access: &Access) -> Result<Spot, Why> {
@@ -268,7 +241,7 @@ impl Vm<'_> {
         Ok(Spot::Pool(PAGE * frame + access.offset % PAGE))
     }
 
-    pub fn load(&self, kind: Kind, address: u64, length: usize) -> Result<Vec<u8>, Why> {
+    pub fn load(&self, kind: Kind, address: u64, length: usize) -> Result<Vec<u8>, Refusal> {
         let (buffer, at) = match self.translate(Some(kind), address, length)? {
             Spot::Snapshot(at) => (&self.world.snapshot, at),
             Spot::Control(at) => (&self.world.control, at),
@@ -279,7 +252,7 @@ impl Vm<'_> {
         Ok(part_or_zeros(buffer, at, length))
     }
 
-    pub fn store(&mut self, kind: Kind, address: u64, bytes: &[u8]) -> Result<(), Why> {
+    pub fn store(&mut self, kind: Kind, address: u64, bytes: &[u8]) -> Result<(), Refusal> {
         let at = match self.translate(Some(kind), address, bytes.len())? {
             Spot::Pool(at) => {
                 if self.has(Bug::SecondStoreCopiesAgain) && self.frame_entry(at / PAGE).usage == COPY {

@@ -35,6 +35,30 @@ bugs! {
     PresenceOfFirstByteOnly,
     NoFrameBeforePresence,
 
+    // Absent bytes.
+    AbsentToldThree,
+    ViewToldThree,
+    UpperBitsToldThirteen,
+    SplitToldThirteen,
+    JoinToldThirteen,
+    DistanceAlwaysZero,
+    DistanceIsLength,
+    /// The absent bytes are counted, not those before them.
+    DistanceFromEnd,
+    DistanceOfLastPresent,
+    /// Its low 8 bits alone.
+    DistanceAsByte,
+    DistanceIsOffsetInPage,
+    DistanceFromPageStart,
+    ContextDistanceAcrossGap,
+    StackDistanceToEnd,
+    FetchLosesDistance,
+    StoresLoseDistance,
+    SpansLoseDistance,
+    TranslationLosesDistance,
+    DistanceInOtherRefusals,
+    DistanceWhenDone,
+
     // Segments.
     ContextRemainderUntested,
     StackFromBottom,

@@ -83,7 +83,7 @@ impl Vm<'_> {
     }
 
     pub fn page_view(&self, account: u16, page: u16) -> Result<Part, Why> {
-        // "1 headers, 4 account, 1 entry, 3 no live bytes"
+        // "1 headers, 4 account, 1 entry, 3 no live bytes", which is 13 "in the same places of the order"
         let header = self.valid()?;
         if usize::from(account) >= header.accounts {
             return Err(Why::NoAccount);
@@ -91,7 +91,7 @@ impl Vm<'_> {
         let entry = self.entry(&header, account)?;
         let live = live_bytes(entry.length, page);
         if live == 0 {
-            return Err(Why::NoLiveBytes);
+            return Err(if self.has(Bug::ViewToldThree) { Why::UpperBits } else { Why::NoLiveBytes });
         }
         let length = if self.has(Bug::ViewPastLiveBytes) { PAGE } else { live };
         let frame = self.claim_of_copy(account, page).filter(|_| !self.has(Bug::ViewReadsOriginal));

@@ -1,4 +1,4 @@
-//! Why a call is refused: finer than document 01's numbers, so that coverage can tell the several 1s, 3s, 4s, 7s and 12s apart.
+//! Why a call is refused: finer than the papers' numbers, so that coverage can tell the several 1s, 3s, 4s, 7s, 12s and 13s apart.
 
 #[derive(Clone, Copy, Debug, PartialEq, Eq, PartialOrd, Ord)]
 pub enum Why {
@@ -16,8 +16,6 @@ pub enum Why {
     Length,
     UpperBits,
     WideOffset,
-    NotPresent,
-    NoLiveBytes,
     NoSegment,
     NoAccount,
     AbsentProgram,
@@ -33,17 +31,19 @@ pub enum Why {
     ListOrder,
     ListLiveCount,
     ListLiveOfData,
+    NotPresent,
+    NoLiveBytes,
 }
 
 impl Why {
-    /// The table of "Numbers given back".
+    /// The table of "Numbers given back", and "A byte not present, and a view of a page with no live bytes, become 13".
     pub fn number(self) -> u8 {
         use Why::*;
         match self {
             Snapshot | Control | Pool | Record | Entry | Unclaimed => 1,
             CopyOfNoAccount | CopyOfInvalidEntry | CopyWithoutLiveBytes | CopiedTwice => 1,
             UnknownKind | Length => 2,
-            UpperBits | WideOffset | NotPresent | NoLiveBytes => 3,
+            UpperBits | WideOffset => 3,
             NoSegment | NoAccount | AbsentProgram => 4,
             Misaligned => 5,
             Crossing => 6,
@@ -53,6 +53,21 @@ impl Why {
             TooManyPages => 10,
             ShortOutput => 11,
             ListLayout | ListOrder | ListLiveCount | ListLiveOfData => 12,
+            NotPresent | NoLiveBytes => 13,
         }
+    }
+}
+
+/// A refusal as an access tells it.
+#[derive(Clone, Copy)]
+pub struct Refusal {
+    pub why: Why,
+    pub distance: u16,
+}
+
+/// Where no byte is absent, or the call is no access, the distance is 0.
+impl From<Why> for Refusal {
+    fn from(why: Why) -> Refusal {
+        Refusal { why, distance: 0 }
     }
 }

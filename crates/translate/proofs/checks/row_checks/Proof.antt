@@ -43,9 +43,9 @@ add-length c =
 returns-5 : tie.Need-returns-5
 unfolding rowChecks _then_ need
 returns-5 c =
-    let w = c .before .before in
+    let w = c .before .before .before in
     let d = w .before .before .before in
-    rw (d .before .before .if1 .taken, ← d .before .aligned .ensures, d .if2 .taken, w .before .before .if3 .taken, ← w .before .within .ensures, w .if4 .taken, lt-leb _ _ (c .if5 .left))
+    rw (d .before .before .if1 .taken, ← d .before .aligned .ensures, d .if2 .taken, w .before .before .if3 .taken, ← w .before .within .ensures, w .if4 .taken, lt-leb _ _ (c .before .if5 .left), c .present-from .ensures)
 
 -- all tests pass
 returns-6 : tie.Need-returns-6
@@ -66,5 +66,6 @@ row-checks-spec =
     (λ c κs. search needs)
     returns-4
     add-length
+    (λ c κs. search needs)
     returns-5
     returns-6)

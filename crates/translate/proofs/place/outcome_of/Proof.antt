@@ -10,5 +10,6 @@ outcome-of-spec =
     (λ c. search needs)
     (λ c. search needs)
     (λ c κs. search needs)
+    (λ c κs. search needs)
     (λ c. rw (c .enum-told .given .1))
-    (λ c. rw (c .before .before .t .given .1, c .number .ensures)))
+    (λ c. rw (c .before .before .before .t .given .1, c .before .distance .ensures, c .number .ensures)))
