@@ -12,7 +12,7 @@
  *
  *    0  done                                    7  not permitted
  *    1  a buffer, header, entry is not valid    8  too few free frames
- *    2  unknown kind or wrong length            9  call at 16 invocations, return at 1
+ *    2  unknown kind, wrong length or pages     9  call at 16 invocations, return at 1
  *    3  upper 16 bits set, offset too large    10  region above 4,096 pages
  *    4  no such segment, account or program    11  output too short
  *    5  misaligned                             12  bad change list
@@ -159,9 +159,15 @@ hekthumar_address hekthumar_join(uint8_t type, uint16_t index, uint32_t offset);
 /* The fields of an address below 2^48; else 3 and zero fields. */
 hekthumar_fields hekthumar_split(uint64_t address);
 
-/* Begins a program: writes the whole control block, leaves the pool. Refusals: 1 for the buffers, then 4, 1, 4 for the program's account. */
-uint8_t hekthumar_begin(const uint8_t *snapshot, size_t snapshot_len, uint8_t *control, size_t control_len, const uint8_t *pool,
-                        size_t pool_len, uint16_t program);
+/* Begins a program with one stack page: hekthumar_begin_pages with 1. */
+uint8_t hekthumar_begin(const uint8_t *snapshot, size_t snapshot_len, uint8_t *control, size_t control_len, uint8_t *pool, size_t pool_len,
+                        uint16_t program);
+
+/* Begins a program with 0 or 1 stack pages: writes the whole control block, reads no byte of it or of the pool. With 1, frame 0 is taken for
+ * stack page 4,095, with tag 0, and its 4,096 bytes are zeroed; every other byte of the pool stays. With 0 the pool stays whole. Refusals: 1
+ * for the snapshot and both lengths, 2 for more than 1 page, then 4, 1, 4 for the program's account, last 8 for 1 page and no frame. */
+uint8_t hekthumar_begin_pages(const uint8_t *snapshot, size_t snapshot_len, uint8_t *control, size_t control_len, uint8_t *pool,
+                              size_t pool_len, uint16_t program, size_t pages);
 
 /* Where an access of this kind would go, and the number that it would give. Changes nothing. */
 hekthumar_place hekthumar_translate(const uint8_t *snapshot, size_t snapshot_len, const uint8_t *control, size_t control_len,

@@ -45,7 +45,6 @@ bool snapshot_build(struct buffers *b, const struct account *accounts, size_t co
 
 uint8_t begin_program(struct buffers *b, uint16_t program) {
     uint8_t number = hekthumar_begin(LENT(b), program);
-    if (number == 0) number = hekthumar_resize(LENT(b), HEKTHUMAR_STACK, STACK_PAGES);
     if (number == 0) number = hekthumar_resize(LENT(b), HEKTHUMAR_HEAP, HEAP_PAGES);
     return number;
 }

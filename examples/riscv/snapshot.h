@@ -6,7 +6,7 @@
 
 #include <stdbool.h>
 
-enum { FRAMES = 8, SNAPSHOT_MAX = 65536, STACK_PAGES = 2, HEAP_PAGES = 1 };
+enum { FRAMES = 8, SNAPSHOT_MAX = 65536, HEAP_PAGES = 1 };
 
 struct buffers {
     uint8_t snapshot[SNAPSHOT_MAX];
@@ -38,7 +38,7 @@ uint64_t get_number(const uint8_t *at, size_t size);
 /* Lays out accounts and transaction as a snapshot without block contexts; false if it is too long for the buffer. */
 bool snapshot_build(struct buffers *b, const struct account *accounts, size_t count, struct bytes transaction);
 
-/* Begins a program and gives it its stack and heap; the library's number. */
+/* Begins a program, with the stack page that begin gives, and gives it its heap; the library's number. */
 uint8_t begin_program(struct buffers *b, uint16_t program);
 
 #endif

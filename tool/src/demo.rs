@@ -17,7 +17,7 @@ pub fn demo(out: &mut Output) -> Result<(), Failure> {
     let mut session = Session::new(snapshot.clone());
     session.lend(4);
     out.line(INTRODUCTION)?;
-    step(out, "begin 0", session.begin(PROGRAM))?;
+    step(out, "begin 0", session.begin(PROGRAM, None))?;
     book(&mut session, out)?;
     out.line(POOL)?;
     out.lines(session.map().lines)?;
@@ -87,7 +87,8 @@ const REFUSED: &str = "
 Customer 34 asks for slots 5999 and 6000. Slot 5999 is the last. A refused booking changes nothing.";
 
 const POOL: &str = "
-One frame of four is in use, for page 1 of account 1.";
+Two frames of four are in use: begin took frame 0 for a page of stack, the first booking frame 1 for
+page 1 of account 1.";
 
 const LISTED: &str = "
 The change list says what to write back: page 1, whole. These of its slots differ from the original.";

@@ -49,7 +49,11 @@ fn standard_error_that_is_full() {
     let folder = folder("full-errors");
     let came = tool::came(tool::command(folder.path()).args(["run", "snapshot", "script"]).stderr(full()));
     assert_eq!(came.status, 1);
-    assert!(came.output.ends_with("\n     0 ................\n"), "the script was not carried out to its end: {}", came.output);
+    assert!(
+        came.output.ends_with("\n     0 S...............\n  frame 0: stack, page 4095, tag 0\n"),
+        "the script was not carried out to its end: {}",
+        came.output
+    );
 }
 
 /// What is wrong with a statement stands behind its answer, and before the next statement.
@@ -71,6 +75,7 @@ fn both_streams_in_one_file() {
         "map",
         "pool ",
         "     0 ",
+        "  frame 0: ",
         "script: 1 of 3 ",
     ];
     let lines: Vec<&str> = both.lines().collect();

@@ -1,13 +1,14 @@
-//! Scripts that are tests by themselves: in `scripts/`, each says what it expects of every call, with numbers from document 01.
+//! Scripts that are tests by themselves: in `scripts/`, each says what it expects of every call, with numbers from documents 01 and 02.
 
 mod common;
 mod data;
 
 use common::folder::Folder;
 use common::tool::{self, Came};
-use data::bytes::with_word;
-use data::layout::{account_at, LENGTH, PAGE};
-use data::{control, list, snapshot};
+use data::bytes::{patched, with_word};
+use data::control::{control, entry, record, UNUSED};
+use data::layout::{account_at, control_length, LENGTH, PAGE, STACK};
+use data::{list, snapshot};
 use std::collections::BTreeSet;
 use std::fs;
 use std::path::PathBuf;
@@ -31,15 +32,28 @@ fn scripts() -> Vec<Script> {
         over("walk", snapshot::trials(0, &[])),
         over("edges", snapshot::trials(1, &snapshot::slots())),
         over("contexts", snapshot::trials(512, &snapshot::slots())),
+        begin(),
         inspect(),
         bookings(),
     ]
 }
 
+/// The script pokes nines into both ends of frame 0 and the start of frame 1. Files for a pool without a frame are there too.
+fn begin() -> Script {
+    let files = [("snapshot", snapshot::trials(1, &snapshot::slots())), ("no-control", vec![0; control_length(0)]), ("no-pool", vec![])];
+    let begun = |pages, first| control(&[record(1, pages, 0, &[])], &[first, UNUSED, UNUSED]);
+    let (empty, one) = (begun(0, UNUSED), begun(1, entry(STACK, 0, 0, 4_095)));
+    let zeroed = patched(&[0; 3 * PAGE], PAGE, &[9; 8]);
+    let poked = patched(&patched(&zeroed, 0, &[9; 8]), PAGE - 8, &[9; 8]);
+    let without = [("empty-control", empty), ("empty-pool", poked)];
+    let with = [("one-control", one.clone()), ("one-pool", zeroed.clone()), ("control", one), ("pool", zeroed)];
+    Script { name: "begin", files: files.into(), left: without.into_iter().chain(with).collect() }
+}
+
 /// Account 3 has no data, so that its entry is valid until the script damages it.
 fn inspect() -> Script {
     let snapshot = with_word(&snapshot::inspected(), account_at(3) + LENGTH, 0);
-    let (control, pool) = (control::inspected(), vec![0; 6 * PAGE]);
+    let (control, pool) = (data::control::inspected(), vec![0; 6 * PAGE]);
     let short = |bytes: &[u8]| bytes[..bytes.len() - 1].to_vec();
     let short = [("short-control", short(&control)), ("short-pool", short(&pool))];
     let files = [("snapshot", snapshot), ("control", control), ("pool", pool)].into_iter().chain(short);
@@ -48,10 +62,7 @@ fn inspect() -> Script {
 
 fn bookings() -> Script {
     let page = &list::trial_slots()[PAGE..];
-    let mut pool = page.to_vec();
-    pool.resize(PAGE, 0);
-    pool.extend([9; 8]);
-    pool.resize(2 * PAGE, 0);
+    let pool = patched(&patched(&[0; 3 * PAGE], PAGE, page), 2 * PAGE, &[9; 8]);
     let left = [("no-bookings", list::list(&[])), ("bookings", list::list(&[(5, 1, page)])), ("pool", pool)];
     Script { name: "bookings", files: vec![("snapshot", snapshot::trials(1, &snapshot::slots()))], left: left.into() }
 }

@@ -8,7 +8,7 @@ fn main() -> Result<(), Box<dyn std::error::Error>> {
     let slots = builder.account(Account::data(program, vec![7; 6_000]).writable());
     let snapshot = builder.build()?;
 
-    // Eight frames: room for eight pages that are copies, stack or heap.
+    // Eight frames: room for eight pages that are copies, stack or heap. Begin takes one for the stack.
     let (mut control, mut pool) = (vec![0; control_len(8)], vec![0; pool_len(8)]);
     let mut memory = Memory::new(&snapshot, &mut control, &mut pool);
     memory.begin(program)?;

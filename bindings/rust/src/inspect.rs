@@ -16,9 +16,10 @@
 //! memory.resize(Region::Heap, 1)?;
 //!
 //! assert_eq!(ControlHeader::read(&control).unwrap().invocations, 1);
-//! assert_eq!(Invocation::read(&control, 1).unwrap().heap, 1);
+//! let current = Invocation::read(&control, 1).unwrap();
+//! assert_eq!((current.stack, current.heap), (1, 1));
 //! let uses: Vec<u8> = frame_entries(&control).map(|entry| entry.usage).collect();
-//! assert_eq!(uses, [Region::Heap as u8, 0]);
+//! assert_eq!(uses, [Region::Stack as u8, Region::Heap as u8]);
 //! # Ok::<(), Refusal>(())
 //! ```
 

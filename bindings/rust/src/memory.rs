@@ -56,16 +56,54 @@ macro_rules! lend {
 }
 
 impl<'a> Memory<'a> {
-    /// Takes the buffers, untested. `control` and `pool` may hold anything before [`Memory::begin`].
+    /// Takes the buffers, untested. `control` and `pool` may hold anything before the first begin.
     pub fn new(snapshot: &'a [u8], control: &'a mut [u8], pool: &'a mut [u8]) -> Memory<'a> {
         Memory { snapshot, control, pool }
     }
 
-    /// Begins a program as the only invocation, without copies, stack or heap.
+    /// Begins a program with one stack page: [`Memory::begin_with_pages`] with 1.
     ///
-    /// Refused with [`Refusal::NoSegment`] if there is no such account.
+    /// ```
+    /// # use hekthumar::*;
+    /// # let mut builder = SnapshotBuilder::new();
+    /// # let program = builder.account(Account::program([1, 2, 3, 4]));
+    /// # let snapshot = builder.build().unwrap();
+    /// # let (mut control, mut pool) = (vec![0; control_len(2)], vec![0; pool_len(2)]);
+    /// # let mut memory = Memory::new(&snapshot, &mut control, &mut pool);
+    /// memory.begin(program)?;
+    /// let top = Address::stack(0xFF_FFF8)?;
+    /// memory.store_u64(top, 42)?;
+    /// assert_eq!(memory.load_u64(top), Ok(42));
+    /// assert_eq!(memory.translate(Kind::Load, top, 8)?, Place::Pool { at: 4_088 });
+    /// # Ok::<(), Refusal>(())
+    /// ```
     pub fn begin(&mut self, program: u16) -> Result<(), Refusal> {
         check(lend!(as_mut_ptr, self, hekthumar_begin(program)))
+    }
+
+    /// Begins a program as the only invocation, with 0 or 1 stack pages and without copies or heap. The page is frame 0 of the pool,
+    /// zeroed; every other byte of the pool stays.
+    ///
+    /// Refused with [`Refusal::BadRequest`] for more than 1 page, [`Refusal::NoSegment`] if there is no such account, and
+    /// [`Refusal::OutOfFrames`] for 1 page and a pool without a frame.
+    ///
+    /// ```
+    /// # use hekthumar::*;
+    /// # let mut builder = SnapshotBuilder::new();
+    /// # let program = builder.account(Account::program([1, 2, 3, 4]));
+    /// # let snapshot = builder.build().unwrap();
+    /// // A pool without a frame: enough for a program that only reads.
+    /// let (mut control, mut pool) = (vec![0; control_len(0)], vec![0; pool_len(0)]);
+    /// let mut memory = Memory::new(&snapshot, &mut control, &mut pool);
+    /// assert_eq!(memory.begin_with_pages(program, 2), Err(Refusal::BadRequest));
+    /// assert_eq!(memory.begin_with_pages(program, 1), Err(Refusal::OutOfFrames));
+    /// memory.begin_with_pages(program, 0)?;
+    /// assert_eq!(memory.load_u64(Address::stack(0xFF_FFF8)?), Err(Refusal::Absent { distance: 0 }));
+    /// assert_eq!(memory.load_u32(Address::program(0)?), Ok(0x0403_0201));
+    /// # Ok::<(), Refusal>(())
+    /// ```
+    pub fn begin_with_pages(&mut self, program: u16, pages: usize) -> Result<(), Refusal> {
+        check(lend!(as_mut_ptr, self, hekthumar_begin_pages(program, pages)))
     }
 
     /// Where an access would go. Refused exactly as the access would be; changes nothing.
@@ -81,10 +119,11 @@ impl<'a> Memory<'a> {
     /// # memory.begin(program)?;
     /// let address = Address::data(slots, 0x1004)?;
     /// let place = memory.translate(Kind::Store, address, 1)?;
-    /// assert_eq!(place, Place::Take { at: 4, frame: 0, account: slots, page: 1 });
+    /// // Frame 0 is the stack's page.
+    /// assert_eq!(place, Place::Take { at: 4_096 + 4, frame: 1, account: slots, page: 1 });
     ///
     /// memory.store_u8(address, 0x11)?;
-    /// assert_eq!(memory.translate(Kind::Store, address, 1)?, Place::Pool { at: 4 });
+    /// assert_eq!(memory.translate(Kind::Store, address, 1)?, Place::Pool { at: 4_096 + 4 });
     /// # Ok::<(), Refusal>(())
     /// ```
     pub fn translate(&self, kind: Kind, address: Address, length: usize) -> Result<Place, Refusal> {
@@ -121,7 +160,7 @@ impl<'a> Memory<'a> {
     /// Calls a program. The new invocation starts with its caller's stack and heap: it may load from all their pages, but store only to
     /// pages that it adds. `registers` are kept for [`Memory::return_from`].
     ///
-    /// Refused with [`Refusal::CallDepth`] at 16 live invocations; else as [`Memory::begin`].
+    /// Refused with [`Refusal::CallDepth`] at 16 live invocations, and [`Refusal::NoSegment`] if there is no such account.
     pub fn call(&mut self, program: u16, registers: &Registers) -> Result<(), Refusal> {
         check(lend!(as_mut_ptr, self, hekthumar_call(program, registers.as_ptr(), registers.len())))
     }
@@ -142,7 +181,7 @@ impl<'a> Memory<'a> {
         check(lend!(as_mut_ptr, self, hekthumar_resize(region as u8, pages)))
     }
 
-    /// Writes the list of account pages stored to since [`Memory::begin`] to the start of `out`.
+    /// Writes the list of account pages stored to since the last begin to the start of `out`.
     ///
     /// Refused with [`Refusal::OutputTooShort`] if `out` has less than [`change_list_len`](crate::change_list_len) of the pages' number,
     /// and with [`Refusal::Invalid`] if the table of frames contradicts itself or the snapshot.

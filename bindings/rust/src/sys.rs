@@ -67,9 +67,19 @@ extern "C" {
         snapshot_len: usize,
         control: *mut u8,
         control_len: usize,
-        pool: *const u8,
+        pool: *mut u8,
         pool_len: usize,
         program: u16,
+    ) -> u8;
+    pub fn hekthumar_begin_pages(
+        snapshot: *const u8,
+        snapshot_len: usize,
+        control: *mut u8,
+        control_len: usize,
+        pool: *mut u8,
+        pool_len: usize,
+        program: u16,
+        pages: usize,
     ) -> u8;
     pub fn hekthumar_translate(
         snapshot: *const u8,

@@ -13,7 +13,7 @@ const SLOTS: u16 = 1;
 const NOBODY: u16 = 2;
 
 /// The buffers of a host: a program of 6 bytes, 5,005 bytes of data, a transaction of 11 bytes, two block contexts; one page each of stack
-/// and heap if there are frames for them.
+/// and heap, unless there is no frame.
 struct Host {
     snapshot: Vec<u8>,
     control: Vec<u8>,
@@ -32,11 +32,9 @@ impl Host {
         let (snapshot, control, pool) = (builder.build().unwrap(), vec![0; control_len(frames)], vec![0; pool_len(frames)]);
         let mut host = Host { snapshot, control, pool };
         let mut memory = host.memory();
-        memory.begin(PROGRAM).unwrap();
-        if frames >= 2 {
-            memory.resize(Region::Stack, 1).unwrap();
-            memory.resize(Region::Heap, 1).unwrap();
-        }
+        let pages = frames.min(1);
+        memory.begin_with_pages(PROGRAM, pages).unwrap();
+        memory.resize(Region::Heap, pages).unwrap();
         host
     }
 

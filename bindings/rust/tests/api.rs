@@ -34,13 +34,24 @@ impl Host {
         ];
         let numbers = accounts.map(|account| builder.account(account));
         assert_eq!(numbers, [PROGRAM, FOREIGN, READ_ONLY, ABSENT, CALLEE, SLOTS]);
-        // A begin leaves the pool alone and overwrites the control block: neither needs to be clean.
+        // A begin overwrites the control block and zeroes the frame that it takes: neither buffer needs to be clean.
         Host { snapshot: builder.build().unwrap(), control: vec![0xCC; control_len(frames)], pool: vec![0xCC; pool_len(frames)], slots }
     }
 
+    fn memory(&mut self) -> Memory<'_> {
+        Memory::new(&self.snapshot, &mut self.control, &mut self.pool)
+    }
+
     fn begin(&mut self) -> Memory<'_> {
-        let mut memory = Memory::new(&self.snapshot, &mut self.control, &mut self.pool);
+        let mut memory = self.memory();
         memory.begin(PROGRAM).unwrap();
+        memory
+    }
+
+    /// Begins without a stack page.
+    fn begin_empty(&mut self) -> Memory<'_> {
+        let mut memory = self.memory();
+        memory.begin_with_pages(PROGRAM, 0).unwrap();
         memory
     }
 }
@@ -104,11 +115,11 @@ fn without_a_store_the_list_is_empty() {
 #[test]
 fn refusals_of_accesses() {
     let mut host = Host::new(0);
-    let mut fresh = Memory::new(&host.snapshot, &mut host.control, &mut host.pool);
+    let mut fresh = host.memory();
     assert_eq!(fresh.load(slot(0), 1), Err(Refusal::Invalid));
     assert_eq!(fresh.begin(ABSENT), Err(Refusal::NoSegment));
 
-    let mut memory = host.begin();
+    let mut memory = host.begin_empty();
     assert_eq!(memory.load(slot(0), 3), Err(Refusal::BadRequest));
     assert_eq!(memory.load_span(slot(0), &mut []), Err(Refusal::BadRequest));
     assert_eq!(memory.load_u8(Address(1 << 48)), Err(Refusal::OutOfRange));
@@ -158,7 +169,7 @@ fn refusals_have_their_numbers() {
 
 #[test]
 fn a_refused_call_changes_nothing() {
-    let mut host = Host::new(1);
+    let mut host = Host::new(2);
     let mut memory = host.begin();
     memory.store_u8(slot(0), 1).unwrap();
     let before = (memory.buffers().1.to_vec(), memory.buffers().2.to_vec());
@@ -182,16 +193,15 @@ fn a_page_view_moves_from_the_snapshot_to_the_pool() {
     memory.store_u16(slot(0x1004), 0x2211).unwrap();
     let (.., pool) = memory.buffers();
     let view = memory.page_view(SLOTS, 1).unwrap();
-    assert_eq!(view.as_ptr_range(), pool[..1_904].as_ptr_range());
+    assert_eq!(view.as_ptr_range(), pool[4_096..][..1_904].as_ptr_range());
     assert_eq!(view[4..6], [0x11, 0x22]);
-    assert_eq!(memory.page_place(SLOTS, 1), Ok(PagePlace::Pool(0..1_904)));
+    assert_eq!(memory.page_place(SLOTS, 1), Ok(PagePlace::Pool(4_096..6_000)));
 }
 
 #[test]
 fn translation_names_the_place_of_every_segment() {
     let mut host = Host::new(2);
-    let mut memory = host.begin();
-    memory.resize(Region::Stack, 1).unwrap();
+    let memory = host.begin();
     let place = |kind, address: Result<Address, Refusal>| memory.translate(kind, address.unwrap(), 1).unwrap();
     let contexts = 32 + 80 * 6;
     assert_eq!(place(Kind::Load, Address::metadata(SLOTS, 1)), Place::Snapshot { at: 32 + 80 * 5 + 16 + 1 });
@@ -264,7 +274,7 @@ fn addresses_split_and_join() {
 fn a_built_snapshot_gives_back_its_parts() {
     let mut host = Host::new(0);
     let slots = host.slots.clone();
-    let memory = host.begin();
+    let memory = host.begin_empty();
     let (snapshot, ..) = memory.buffers();
     assert_eq!(account_data(snapshot, SLOTS), Some(&slots[..]));
     assert_eq!(account_data(snapshot, ABSENT), Some(&[][..]));
@@ -286,7 +296,6 @@ fn the_fields_of_the_formats_are_those_of_the_calls() {
     use inspect::*;
     let mut host = Host::new(4);
     let mut memory = host.begin();
-    memory.resize(Region::Stack, 1).unwrap();
     memory.store_u8(slot(0x1004), 0x11).unwrap();
     let mut registers = [0; 256];
     registers[8] = 0x77;

@@ -13,7 +13,7 @@ use Rattle.translate.specs.declared.place.Outcome.{Outcome}
 use Rattle.access.specs.Loads.{loadOf, fetchOf, loadSpanOutcome, loadSpanOut}
 use Rattle.access.specs.Stores.{storeOutcome, storeControl, storePool}
 use Rattle.invoke.specs.declared.begin.Start.{Start}
-use Rattle.invoke.specs.Invoke.{beginNumber, beginControl, callNumber, callControl, returnNumber, returnControl, returnOut}
+use Rattle.invoke.specs.Invoke.{beginNumber, beginControl, beginPool, callNumber, callControl, returnNumber, returnControl, returnOut}
 use Rattle.regions.specs.Resize.{resizeOf}
 use Rattle.changes.specs.List.{changeListNumber, changeListOut}
 use Rattle.view.specs.View.{viewOf, viewNumber, viewBytes}
@@ -21,6 +21,7 @@ use lib.ListN.{length}
 
 -- "begin, translation, load, store, fetch, span load, span store, call, return, resize, change list, page view", each with its
 -- arguments but the three buffers. A lent buffer is given by the bytes that it brings: it "may be lent again and bring any bytes".
+-- "where demand 3 says begin, it means either": what a begin is given has the number of its stack pages.
 pub data Call : Type 0 where
   begin : Start → Call
   translation : (kind address size : ℕ) → Call
@@ -34,6 +35,10 @@ pub data Call : Type 0 where
   resize : (region pages : ℕ) → Call
   change-list : (out : List ℕ) → Call
   page-view : Account → Page → Call
+
+-- the begin "that takes the number of pages"; the begin that takes none is this one with 1
+abbrev pub beginWith : (program pages : ℕ) → Call
+beginWith program pages = begin (record { program = record { 0 = program }; pages = pages })
 
 -- what a call gives: its number, an access's distance, its value, and the bytes of its lent buffer afterwards or of its view
 pub record Answer : Type 0 where
@@ -62,7 +67,8 @@ buffers c p = record { control = c; pool = p }
 
 -- one call: "Every call is lent the same read-only buffer, and the same two working buffers as the last call left them."
 unfoldable pub stepOf : List ℕ → Buffers → Call → Step
-stepOf s b (begin x) = answers (buffers (beginControl s (b .control) (b .pool) x) (b .pool)) (beginNumber s (b .control) (b .pool) x) []
+stepOf s b (begin x) =
+    answers (buffers (beginControl s (b .control) (b .pool) x) (beginPool s (b .control) (b .pool) x)) (beginNumber s (b .control) (b .pool) x) []
 stepOf s b (translation kind a n) = accesses b (outcomeOf (translateOf s (b .control) (b .pool) kind a n)) 0 []
 stepOf s b (load a n) = accesses b (loadOf s (b .control) (b .pool) a n .outcome) (loadOf s (b .control) (b .pool) a n .value) []
 stepOf s b (store a n v) =

@@ -13,11 +13,12 @@ use Rattle.snapshot.specs.Header.{accounts}
 use Rattle.control.specs.Control.{invocations, buffersValid}
 use Rattle.control.proofs.Facts.{buffers-valid}
 use Rattle.control.specs.Buffers.{Buffers}
+use Rattle.control.specs.declared.shadow.Region.the-variants.{Stack}
 use Rattle.frames.specs.Table.{claims, isFound}
 use Rattle.frames.proofs.Entries.{zero-range}
 use Rattle.frames.proofs.Claims.{none-frame}
 use Rattle.invoke.specs.declared.begin.Start.{Start}
-use Rattle.invoke.specs.Invoke.{beginCheck, beginNumber, beginControl, fresh}
+use Rattle.invoke.specs.Invoke.{beginCheck, beginNumber, beginControl, beginPool, fresh, begun}
 use Rattle.invoke.proofs.Accepted.{RoomFacts, room-facts, BeginFacts, begin-facts, program-known, program-fits}
 use Rattle.invoke.proofs.Fresh.{fresh-frames, fresh-invocations, fresh-valid, fresh-invocation, fresh-current-valid, fresh-entry, fresh-claims}
 use Rattle.changes.specs.Keys.{keyClaim, isCopied}
@@ -27,6 +28,7 @@ use Rattle.history.specs.Replay.{Replay, started, replayEffect}
 use Rattle.history.proofs.Good.{copyOf, LiveRecord, Good}
 use Rattle.history.proofs.Others.{GoodAfter}
 use Rattle.history.proofs.Refused.{keep-refused}
+use Rattle.history.proofs.Resized.{resized-good}
 
 module _ (s : List ℕ) (size : ℕ) (p : List ℕ) (x : Start) (e : beginCheck s size (length p) x ≡ Pass) where
   -- what the check has shown
@@ -73,7 +75,7 @@ module _ (s : List ℕ) (size : ℕ) (p : List ℕ) (x : Start) (e : beginCheck 
       })
 
   -- the invariant holds of a fresh control block
-  pub fresh-good : Good s (record { control = fresh size x; pool = p }) (started s)
+  fresh-good : Good s (record { control = fresh size x; pool = p }) (started s)
   fresh-good =
       record {
         buffers = fresh-buffers;
@@ -87,14 +89,19 @@ module _ (s : List ℕ) (size : ℕ) (p : List ℕ) (x : Start) (e : beginCheck 
         kept = λ a q l m t k n. refl;
       }
 
+  -- and once its stack is resized
+  pub begun-good : Good s (begun size p x) (started s)
+  unfolding begun
+  begun-good = resized-good fresh-good Stack (x .pages) (omega (arith, facts .few-pages))
+
 -- it holds after an accepted begin, from any buffers
-pub begun : (s : List ℕ) (b : Buffers) (x : Start) → accepted s b (begin x) ≡ true → Good s (stepOf s b (begin x) .after) (started s)
-unfolding stepOf beginNumber beginControl
-begun s b x e =
+pub opens : (s : List ℕ) (b : Buffers) (x : Start) → accepted s b (begin x) ≡ true → Good s (stepOf s b (begin x) .after) (started s)
+unfolding stepOf beginNumber beginControl beginPool
+opens s b x e =
     let n : beginCheck s (length (b .control)) (length (b .pool)) x ≡ Pass = check-passed _ e in
-    rw n (fresh-good s (length (b .control)) (b .pool) x n)
+    rw n (begun-good s (length (b .control)) (b .pool) x n)
 
 -- a begin keeps it, accepted or refused
 pub keep-begin : {s : List ℕ} {b : Buffers} {r : Replay} → Good s b r → (x : Start) → GoodAfter s b r (begin x)
 unfolding effect replayEffect
-keep-begin {s} {b} g x = by-test (accepted s b (begin x)) (λ e. rw e (begun s b x e)) (λ e. keep-refused g (begin x) e)
+keep-begin {s} {b} g x = by-test (accepted s b (begin x)) (λ e. rw e (opens s b x e)) (λ e. keep-refused g (begin x) e)

@@ -12,7 +12,7 @@ use Rattle.history.specs.Replay.{Replay, started, replayEffect, replaySt
 use Rattle.history.specs.Claims.{LoadRight, LoadsRight}
 use Rattle.history.proofs.Good.{Good}
 use Rattle.history.proofs.Others.{GoodAfter}
-use Rattle.history.proofs.Begun.{begun}
+use Rattle.history.proofs.Begun.{opens}
 
 module _ (step : (s : List ℕ) (b : Buffers) (r : Replay) → Good s b r → (k : Call) → GoodAfter s b r k)
     (right : (s : List ℕ) (b : Buffers) (r : Replay) → Good s b r → (k : Call) → LoadRight r k (stepOf s b k .answer)) where
@@ -30,5 +30,5 @@ module _ (step : (s : List ℕ) (b : Buffers) (r : Replay) → Good s b r → (k
       → Good s (run s b (begin x ∷ ks)) (replay s (started s) (feed s b (begin x ∷ ks))) × LoadsRight s b (started s) (begin x ∷ ks)
   unfolding run replay feed LoadsRight LoadRight effect replayEffect
   from-begin s b x ks e =
-      let u = whole s (stepOf s b (begin x) .after) (started s) (begun s b x e) ks in
+      let u = whole s (stepOf s b (begin x) .after) (started s) (opens s b x e) ks in
       rw e (u .0, (tt, u .1))

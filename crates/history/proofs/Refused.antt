@@ -24,7 +24,7 @@ use Rattle.translate.specs.declared.place.Translation.{Translation}
 use Rattle.translate.specs.declared.place.Translation.the-variants.{Allowed, Refused}
 use Rattle.access.specs.Loads.{answered, loadOf, fetchOf, filled, loadSpanOutcome, loadSpanOut}
 use Rattle.access.specs.Stores.{controlAfter, poolAfter, storeOutcome, storeControl, storePool}
-use Rattle.invoke.specs.Invoke.{beginCheck, beginNumber, beginControl, callCheck, callNumber, callControl, returnCheck, returnNumber, returnControl, returnOut}
+use Rattle.invoke.specs.Invoke.{beginCheck, beginNumber, beginControl, beginPool, callCheck, callNumber, callControl, returnCheck, returnNumber, returnControl, returnOut}
 use Rattle.regions.specs.Resize.{Resized, growCheck, growTo, shrinkCheck, shrinkControl, resizeTo, resizeCheck, regionOf, orRefused, resizeOf}
 use Rattle.changes.specs.List.{listCheck, changeListNumber, changeListOut}
 use Rattle.apply.specs.Apply.{listGood, applyNumber, applyData}
@@ -120,9 +120,10 @@ module _ (s : List ℕ) (b : Buffers) where
 
   -- "Every number but 0 changes nothing": a refused call of any kind
   pub refused-keeps : (k : Call) → accepted s b k ≡ false → Unchanged b k (stepOf s b k)
-  unfolding stepOf given beginNumber beginControl loadOf fetchOf loadSpanOutcome loadSpanOut callNumber callControl returnNumber returnControl returnOut resizeOf changeListNumber changeListOut
+  unfolding stepOf given beginNumber beginControl beginPool loadOf fetchOf loadSpanOutcome loadSpanOut callNumber callControl returnNumber returnControl returnOut resizeOf changeListNumber changeListOut
   refused-keeps (begin x) e =
-      record { after = same-buffers (stop-keeps (beginCheck s (length c) (length p) x) c _ e) refl; value = refl; bytes = refl }
+      let k : Check = beginCheck s (length c) (length p) x in
+      record { after = same-buffers (stop-keeps k c _ e) (stop-keeps k p _ e); value = refl; bytes = refl }
   refused-keeps (translation kind a n) e = record { after = refl; value = refl; bytes = refl }
   refused-keeps (load a n) e = record { after = refl; value = no-value s c p n (translateOf s c p kindLoad a n) e; bytes = refl }
   refused-keeps (store a n v) e =

@@ -169,7 +169,7 @@ module _ {s : List ℕ} {r : Replay} {b : Buffers} (g : Good s b r) where
 
 module _ {s : List ℕ} {r : Replay} {b : Buffers} (g : Good s b r) where
   -- the invariant holds after a region is resized to n pages
-  resized-good : (q : Region) (n : ℕ) → n ≤ pageLimit
+  pub resized-good : (q : Region) (n : ℕ) → n ≤ pageLimit
       → Good s (resizeTo (b .control) (b .pool) q n .after) r
   unfolding resizeTo growTo shrinkControl growCheck
   resized-good q n few =

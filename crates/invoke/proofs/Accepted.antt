@@ -17,7 +17,7 @@ use Rattle.snapshot.proofs.Facts.{SnapshotFacts, snapshot-facts}
 use Rattle.snapshot.proofs.Told.{account-facts}
 use Rattle.control.specs.Control.{invocations}
 use Rattle.control.proofs.Facts.{ControlFacts, BuffersFacts, control-facts, buffers-facts}
-use Rattle.invoke.specs.Invoke.{programCheck, framesIn, roomValid, beginCheck, callCheck, returnCheck}
+use Rattle.invoke.specs.Invoke.{programCheck, framesIn, roomValid, startCheck, beginCheck, callCheck, returnCheck}
 use Rattle.invoke.specs.declared.begin.Start.{Start}
 
 -- ---- the program
@@ -58,14 +58,24 @@ room-facts control pool e =
 pub record BeginFacts (s : List ℕ) (control pool : ℕ) (x : Start) : Type 0 where
   pub snapshot : snapshotValid s ≡ true
   pub room : roomValid control pool ≡ true
+  pub few-pages : x .pages ≤ 1
   pub program : programCheck s (x .program) ≡ Pass
+  pub free : x .pages ≤ framesIn control
 
 pub begin-facts : (s : List ℕ) (control pool : ℕ) (x : Start) → beginCheck s control pool x ≡ Pass → BeginFacts s control pool x
-unfolding beginCheck
+unfolding beginCheck startCheck
 begin-facts s control pool x e =
-    let t = need-then _ _ _ e in
-    let b = both-true _ _ (t .0) in
-    record { snapshot = b .0; room = b .1; program = t .1 }
+    let t₁ = need-then _ _ _ e in
+    let t₂ = need-then _ _ _ (t₁ .1) in
+    let t₃ = then-pass _ _ (t₂ .1) in
+    let b = both-true _ _ (t₁ .0) in
+    record {
+      snapshot = b .0;
+      room = b .1;
+      few-pages = leb-true _ _ (t₂ .0);
+      program = t₃ .0;
+      free = leb-true _ _ (need-pass _ _ (t₃ .1));
+    }
 
 -- ---- call and return
 

@@ -1,7 +1,7 @@
 -- What a fresh control block reads: the header with one invocation, its record with the program and no pages, and zeros elsewhere.
 -- Assumes nothing.
 use Prim.Native.Nat.{ℕ, _+_, _≤_, _<_, _^_}
-use mathlib.Core.Path.{_≡_, refl, sym, _∙_}
+use mathlib.Core.Path.{_≡_, refl, sym, _∙_, ap}
 use mathlib.Core.Bool.{true, false}
 use mathlib.Core.Logic.{inl, inr}
 use mathlib.Core.List.{List}
@@ -13,8 +13,10 @@ use Rattle.words.specs.Words.{wordAt, wordBytes, splice, zeros}
 use Rattle.words.proofs.Splice.{length-splice}
 use Rattle.words.proofs.Word.{word-in, word-behind, word-zeros, word-same, length-wordBytes}
 use Rattle.words.proofs.Run.{length-zeros}
-use Rattle.control.specs.Control.{frames, invocations, recordAt, invocationOf, current, controlValid, currentValid}
+use Rattle.control.specs.Control.{frames, invocations, recordAt, invocationOf, current, controlValid, currentValid, pagesOf, sizeOf}
 use Rattle.control.specs.declared.shadow.Invocation.{Invocation}
+use Rattle.control.specs.declared.shadow.Region.{Region}
+use Rattle.control.specs.declared.shadow.Region.the-variants.{Stack, Heap}
 use Rattle.control.proofs.Facts.{control-valid, current-valid}
 use Rattle.control.proofs.Kept.{Only, Apart, only-splice, word-kept}
 use Rattle.control.proofs.Records.{invocation-is}
@@ -48,6 +50,11 @@ base size = splice (zeros size) 0 (headerBytes (framesIn size) 1)
 -- what a program that begins has
 abbrev pub starts : Start → Invocation
 starts x = record { program = x .program; stack = 0; heap = 0 }
+
+-- neither region has pages then
+no-pages : (x : Start) (r : Region) → pagesOf (starts x) r ≡ 0
+no-pages x Stack = refl
+no-pages x Heap = refl
 
 module _ (size pool : ℕ) (x : Start) (valid : roomValid size pool ≡ true) (fits : x .program .0 < 65536) where
   -- the lengths, by name
@@ -131,7 +138,11 @@ module _ (size pool : ℕ) (x : Start) (valid : roomValid size pool ≡ true) (f
   pub fresh-current : current (fresh size x) ≡ starts x
   fresh-current = rw fresh-invocations fresh-invocation
 
-  -- which is valid where the program is below the account count
+  -- no region has pages
+  pub fresh-size : (r : Region) → sizeOf (fresh size x) r ≡ 0
+  fresh-size r = ap (λ (y : Invocation). pagesOf y r) fresh-current ∙ no-pages x r
+
+  -- the current invocation is valid where the program is below the account count
   pub fresh-current-valid : (n : ℕ) → x .program .0 < n → currentValid (fresh size x) n ≡ true
   fresh-current-valid n l =
       current-valid (fresh size x) n

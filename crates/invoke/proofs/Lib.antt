@@ -1,4 +1,5 @@
 pub mod Accepted
 pub mod Fresh
+pub mod Begun
 pub mod Freed
 pub mod Depth

@@ -1,4 +1,4 @@
--- Document 01, "Begin, call, return, resize": begin, call and return. Assumes nothing.
+-- Document 01, "Begin, call, return, resize": begin, call and return; document 02, "Two": begin's stack. Assumes nothing.
 use Prim.Native.Nat.{ℕ, zero, suc, _+_, _-_, _/_}
 use mathlib.Core.Bool.{Bool}
 use mathlib.Core.List.{List, _++_}
@@ -10,15 +10,17 @@ use Rattle.words.specs.Words.{wordBytes, splice, zeros}
 use Rattle.choice.specs.Choice.{pick, both, either}
 use Rattle.refusal.specs.Checks.{need, _then_, checkNumber, orKeep}
 use Rattle.refusal.specs.declared.Check.{Check}
-use Rattle.refusal.specs.declared.Refusal.the-variants.{Invalid, BadRequest, NoSegment, DepthLimit}
+use Rattle.refusal.specs.declared.Refusal.the-variants.{Invalid, BadRequest, NoSegment, NoFrame, DepthLimit}
 use Rattle.snapshot.specs.Header.{snapshotValid}
 use Rattle.snapshot.specs.Accounts.{entryOf, exists}
 use Rattle.snapshot.specs.Lookup.{accountCheck}
 use Rattle.snapshot.specs.declared.accounts.Account.{Account}
+use Rattle.control.specs.Buffers.{Buffers}
 use Rattle.control.specs.Control.{frames, invocations, depth, setInvocations, recordAt, current, putInvocation, clearInvocation, registersOf, buffersValid}
 use Rattle.control.specs.declared.shadow.Region.the-variants.{Stack, Heap}
 use Rattle.frames.specs.Table.{frameEntryOf, freeFrameEntry, usageOf}
 use Rattle.frames.specs.declared.table.FrameEntry.{FrameEntry}
+use Rattle.regions.specs.Resize.{resizeTo}
 use Rattle.invoke.specs.declared.begin.Start.{Start}
 
 -- "4 (not below A), 1 (entry unfit), 4 (does not exist)"
@@ -40,9 +42,16 @@ roomValid control pool =
     (both (leb (framesIn control) frameLimit)
     (both (eqb control (controlLength (framesIn control))) (eqb pool (poolLength (framesIn control)))))
 
--- "Order: 1 (ground; ledger length ..; pool ..), 4 (not below A), 1 (entry unfit), 4 (does not exist)"
+-- "the number of pages, 0 or 1; any other is 2, right after the first 1"; the program; "With F=0 it answers 8, checked last", where a page is asked
+unfoldable pub startCheck : List ℕ → ℕ → Start → Check
+startCheck s f x =
+    need (leb (x .pages) 1) BadRequest
+    then programCheck s (x .program)
+    then need (leb (x .pages) f) NoFrame
+
+-- "Order: 1 (ground; ledger length ..; pool ..)", then the tests of what is asked
 unfoldable pub beginCheck : List ℕ → ℕ → ℕ → Start → Check
-beginCheck s control pool x = need (both (snapshotValid s) (roomValid control pool)) Invalid then programCheck s (x .program)
+beginCheck s control pool x = need (both (snapshotValid s) (roomValid control pool)) Invalid then startCheck s (framesIn control) x
 
 -- "Header of four u32: frame count F .., live invocations D .., offset of shadow frames (16), offset of the frame table (4,504)"
 unfoldable pub headerBytes : ℕ → ℕ → List ℕ
@@ -52,13 +61,21 @@ headerBytes f d = wordBytes 4 f ++ (wordBytes 4 d ++ (wordBytes 4 shadowAt ++ wo
 unfoldable pub fresh : ℕ → Start → List ℕ
 fresh size x = splice (splice (zeros size) 0 (headerBytes (framesIn size) 1)) (recordAt 1) (wordBytes 2 (x .program .0))
 
+-- "Every mill's first call is to grow the stack to one page. Begin shall do it": the stack of a fresh control block, resized to the pages given
+unfoldable pub begun : ℕ → List ℕ → Start → Buffers
+begun size p x = resizeTo (fresh size x) p Stack (x .pages) .after
+
 -- begin's number
 unfoldable pub beginNumber : List ℕ → List ℕ → List ℕ → Start → ℕ
 beginNumber s c p x = checkNumber (beginCheck s (length c) (length p) x)
 
--- the control block after begin; "Pool stays."
+-- the control block after begin
 unfoldable pub beginControl : List ℕ → List ℕ → List ℕ → Start → List ℕ
-beginControl s c p x = orKeep (beginCheck s (length c) (length p) x) c (fresh (length c) x)
+beginControl s c p x = orKeep (beginCheck s (length c) (length p) x) c (begun (length c) p x .control)
+
+-- the pool after begin
+unfoldable pub beginPool : List ℕ → List ℕ → List ℕ → Start → List ℕ
+beginPool s c p x = orKeep (beginCheck s (length c) (length p) x) p (begun (length c) p x .pool)
 
 -- ---- call
 

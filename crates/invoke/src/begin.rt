@@ -1,5 +1,6 @@
-// Begin: a control block for a program, written whole.
+// Begin: a control block for a program, written whole, and its stack.
 use super::program::program_check;
+use control::shadow::Region;
 use layout::control::FIRST_RECORD;
 use layout::control::FRAME_ENTRY;
 use layout::control::FRAMES;
@@ -10,6 +11,7 @@ use refusal::Check;
 use refusal::DONE;
 use refusal::Refusal;
 use refusal::number;
+use regions::resize::resize_to;
 use snapshot::accounts::Account;
 use snapshot::header::valid;
 use words::numbers::write;
@@ -19,11 +21,21 @@ ghost use mathlib.Core.Bool.{true};
 ghost use Prim.Native.Nat.{_≤_};
 ghost use lib.ListN.{length};
 ghost use Rattle.layout.specs.Control.{tableAt, frameLimit};
-ghost use Rattle.invoke.specs.Invoke.{framesIn, roomValid, beginCheck, fresh, beginNumber, beginControl};
+ghost use Rattle.snapshot.specs.Header.{snapshotValid};
+ghost use Rattle.invoke.specs.Invoke.{framesIn, roomValid, startCheck, beginCheck, fresh, beginNumber, beginControl, beginPool};
 
-// What a begin is given.
+// What a begin is given: the account to run, and how many pages its stack has.
 pub struct Start {
     pub program: Account,
+    pub pages: usize,
+}
+
+// How many frames a control block of this length has room for.
+fn frames_in(control: usize) -> usize
+    requires { ⌜ tableAt ≤ control ⌝ }
+    ensures { λ r. ⌜ r ≡ framesIn control ⌝ }
+{
+    (control - TABLE_AT) / FRAME_ENTRY
 }
 
 // Whether the lengths of control block and pool are those of one frame count in range.
@@ -33,7 +45,7 @@ fn room_valid(control: usize, pool: usize) -> bool
     if control < TABLE_AT {
         return false;
     }
-    let frames = (control - TABLE_AT) / FRAME_ENTRY;
+    let frames = frames_in(control);
     if FRAMES < frames {
         return false;
     }
@@ -43,13 +55,31 @@ fn room_valid(control: usize, pool: usize) -> bool
     pool == PAGE * frames
 }
 
+// The tests of what is asked, in order: the number of pages, the program, a frame for each page.
+fn start_check(s: &[u8], frames: usize, start: Start) -> Check
+    requires { ⌜ snapshotValid (now s) ≡ true ⌝ }
+    ensures { λ r. ⌜ r ≡ startCheck (now (s .entry)) frames start ⌝ }
+{
+    if 1 < start.pages {
+        return Check::Stop(Refusal::BadRequest);
+    }
+    let program = program_check(s, start.program);
+    if let Check::Stop(r) = program {
+        return Check::Stop(r);
+    }
+    if start.pages <= frames {
+        return Check::Pass;
+    }
+    Check::Stop(Refusal::NoFrame)
+}
+
 // The tests of begin, in order.
 fn begin_check(s: &[u8], control: usize, pool: usize, start: Start) -> Check
     ensures { λ r. ⌜ r ≡ beginCheck (now (s .entry)) control pool start ⌝ }
 {
     if valid(s) {
         if room_valid(control, pool) {
-            return program_check(s, start.program);
+            return start_check(s, frames_in(control), start);
         }
         return Check::Stop(Refusal::Invalid);
     }
@@ -61,7 +91,7 @@ fn write_fresh(c: &mut [u8], start: Start)
     requires { ⌜ (tableAt ≤ length (now c)) × (framesIn (length (now c)) ≤ frameLimit) ⌝ }
     ensures { λ _. ⌜ now (c .exit) ≡ fresh (length (now (c .entry))) start ⌝ }
 {
-    let frames = (c.len() - TABLE_AT) / FRAME_ENTRY;
+    let frames = frames_in(c.len());
     clear(c, 0, c.len());
     write(c, 0, 4, frames as u64);
     write(c, 4, 4, 1);
@@ -71,15 +101,19 @@ fn write_fresh(c: &mut [u8], start: Start)
     write(c, FIRST_RECORD, 2, program.0 as u64);
 }
 
-// Begins a program: every byte of the control block is written, the pool is left.
-pub fn begin(s: &[u8], c: &mut [u8], pool: &[u8], start: Start) -> u8
+// Begins a program: every byte of the control block is written, then its stack is resized, which takes frame 0 for one page.
+pub fn begin(s: &[u8], c: &mut [u8], pool: &mut [u8], start: Start) -> u8
     ensures { λ r. ⌜ r ≡ beginNumber (now (s .entry)) (now (c .entry)) (now (pool .entry)) start ⌝ }
     ensures { λ _. ⌜ now (c .exit) ≡ beginControl (now (s .entry)) (now (c .entry)) (now (pool .entry)) start ⌝ }
+    ensures { λ _. ⌜ now (pool .exit) ≡ beginPool (now (s .entry)) (now (c .entry)) (now (pool .entry)) start ⌝ }
 {
     let check = begin_check(s, c.len(), pool.len(), start);
     if let Check::Stop(r) = check {
         return number(r);
     }
     write_fresh(c, start);
-    DONE
+    if start.pages == 0 {
+        return DONE;
+    }
+    resize_to(c, pool, Region::Stack, start.pages)
 }

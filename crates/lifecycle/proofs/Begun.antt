@@ -1,29 +1,22 @@
 -- Both regions are right in a fresh control block: it has no pages and no frame in use. Assumes nothing.
 use Prim.Native.Nat.{ℕ, _<_}
-use mathlib.Core.Path.{_≡_, refl, sym, ap, _∙_}
+use mathlib.Core.Path.{_≡_, sym, _∙_}
 use mathlib.Core.Bool.{true}
 use native.Mathlib.Omega.{arith}
-use Rattle.control.specs.Control.{invocations, pagesOf, sizeOf}
+use Rattle.control.specs.Control.{invocations, sizeOf}
 use Rattle.control.specs.declared.shadow.Region.{Region}
-use Rattle.control.specs.declared.shadow.Region.the-variants.{Stack, Heap}
-use Rattle.control.specs.declared.shadow.Invocation.{Invocation}
 use Rattle.frames.specs.Table.{frameEntryOf}
 use Rattle.invoke.specs.Invoke.{roomValid, fresh}
 use Rattle.invoke.specs.declared.begin.Start.{Start}
-use Rattle.invoke.proofs.Fresh.{starts, fresh-invocations, fresh-current, fresh-entry}
+use Rattle.invoke.proofs.Fresh.{fresh-invocations, fresh-size, fresh-entry}
 use Rattle.regions.proofs.Pages.{usage-some}
 use Rattle.lifecycle.specs.Regions.{Rights}
 use Rattle.lifecycle.proofs.Moves.{usage-same}
 
--- a program that begins has no pages
-no-pages : (x : Start) (r : Region) → pagesOf (starts x) r ≡ 0
-no-pages x Stack = refl
-no-pages x Heap = refl
-
 module _ (size pool : ℕ) (x : Start) (valid : roomValid size pool ≡ true) (fits : x .program .0 < 65536) where
   -- no region has pages
-  fresh-size : (r : Region) → sizeOf (fresh size x) r ≡ 0
-  fresh-size r = ap (λ (y : Invocation). pagesOf y r) (fresh-current size pool x valid fits) ∙ no-pages x r
+  none : (r : Region) → sizeOf (fresh size x) r ≡ 0
+  none = fresh-size size pool x valid fits
 
   -- no entry is in use
   fresh-usage : (i : ℕ) → frameEntryOf (fresh size x) i .usage ≡ 0
@@ -36,14 +29,14 @@ module _ (size pool : ℕ) (x : Start) (valid : roomValid size pool ≡ true) (f
       record {
         held = λ r.
             record {
-              most = omega (arith, fresh-size r);
-              held = λ k l. absurd (omega (arith, fresh-size r));
+              most = omega (arith, none r);
+              held = λ k l. absurd (omega (arith, none r));
               only = λ i l u. absurd (usage-some r (sym u ∙ fresh-usage i));
             };
         tagged = λ r.
             record {
               rise = λ i j some l few. let e : i ≡ j = omega arith in rw e (omega arith);
-              tag = λ k i l. absurd (omega (arith, fresh-size r));
+              tag = λ k i l. absurd (omega (arith, none r));
             };
         few = λ i l. omega (arith, fresh-usage i);
       }

@@ -40,7 +40,7 @@ fn resize_check(s: &[u8], c: &[u8], pool: &[u8], region: u8, pages: usize) -> Ch
 }
 
 // Grows or shrinks the region of the current invocation; the same size changes nothing.
-fn resize_to(c: &mut [u8], pool: &mut [u8], r: Region, pages: usize) -> u8
+pub fn resize_to(c: &mut [u8], pool: &mut [u8], r: Region, pages: usize) -> u8
     requires { ⌜ (controlValid (now c) ≡ true) × (length (now pool) ≡ poolLength (frames (now c))) ⌝ }
     requires { ⌜ (pagesOf (current (now c)) r ≤ pageLimit) × (pages ≤ pageLimit) ⌝ }
     ensures { λ n. ⌜ n ≡ resizeTo (now (c .entry)) (now (pool .entry)) r pages .number ⌝ }

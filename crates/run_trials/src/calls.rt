@@ -17,11 +17,12 @@ use words::numbers::u32_at;
 ghost use Prim.Native.Nat.{_+_, _≤_};
 ghost use lib.ListN.{length};
 
-// Begins the program, account 0.
-pub fn begin_program(snapshot: &[u8], control: &mut [u8], pool: &[u8]) {
+// Begins the program, account 0, with one stack page.
+pub fn begin_program(snapshot: &[u8], control: &mut [u8], pool: &mut [u8]) {
     say(b"  begin 0");
     let start = Start {
         program: Account(0),
+        pages: 1,
     };
     answered(begin(snapshot, control, pool, start));
 }

@@ -17,7 +17,7 @@ use layout::page::PAGE;
 use layout::snapshot::CONTEXTS;
 
 // The trial on the last of 512 block contexts, over a snapshot of its own.
-fn most_contexts(control: &mut [u8], pool: &[u8]) {
+fn most_contexts(control: &mut [u8], pool: &mut [u8]) {
     let mut snapshot = [0u8; MOST_CONTEXTS];
     write_snapshot(&mut snapshot, CONTEXTS as u16);
     edges::block_contexts(&snapshot, control, pool);
@@ -29,8 +29,8 @@ fn main() {
     write_snapshot(&mut snapshot, 1);
     let mut control = [7u8; TABLE_AT + 2 * FRAME_ENTRY];
     let mut pool = [9u8; 2 * PAGE];
-    edges::account_data(&snapshot, &mut control, &pool);
-    most_contexts(&mut control, &pool);
+    edges::account_data(&snapshot, &mut control, &mut pool);
+    most_contexts(&mut control, &mut pool);
     edges::stack_page(&snapshot, &mut control, &mut pool);
     edges::heap_page(&snapshot, &mut control, &mut pool);
     two_stores::run(&snapshot, &mut control, &mut pool);

@@ -9,11 +9,13 @@ use hekthumar::layout::{FRAME_ENTRY, FRAME_TABLE, MAX_FRAMES, MAX_INVOCATIONS, M
 use hekthumar::{control_len, pool_len, Refusal, Region};
 use std::ops::Range;
 
-/// Why begin was refused. It asks nothing of what the control block holds, but for its length.
-pub fn begin(world: World, program: u16, refusal: Refusal) -> Option<String> {
+/// Why begin was refused. It asks nothing of what control block and pool hold, but for their lengths.
+pub fn begin(world: World, program: u16, pages: usize, refusal: Refusal) -> Option<String> {
     match refusal {
         Refusal::Invalid if !snapshot_valid(world.snapshot) => first("the snapshot", snapshot::broken(world.snapshot)),
         Refusal::Invalid => lengths(world).or_else(|| entry(world, program)),
+        Refusal::BadRequest => Some(format!("begin takes 0 or 1 stack pages; found {pages}")),
+        Refusal::OutOfFrames => Some("a stack page needs a frame, and the pool has none".to_string()),
         _ => no_program(world, program, refusal),
     }
 }

@@ -66,7 +66,7 @@ pub enum Buffer {
 pub enum Statement {
     Frames(usize),
     Resume { control: PathBuf, pool: PathBuf },
-    Begin { program: u16 },
+    Begin { program: u16, pages: Option<usize> },
     Load { address: Address, size: usize },
     Fetch { address: Address, size: usize },
     Store { address: Address, size: usize, value: u64 },

@@ -71,14 +71,14 @@ fn statement(name: Word, words: &mut Words) -> Result<Statement, Mistake> {
     Ok(match name.text {
         b"frames" => Statement::Frames(words.at_most("N", MAX_FRAMES as u64)? as usize),
         b"resume" => Statement::Resume { control: words.path("CONTROL")?, pool: words.path("POOL")? },
-        b"begin" => Statement::Begin { program: words.short("PROGRAM")? },
+        b"begin" => Statement::Begin { program: words.short("PROGRAM")?, pages: optional(words, "PAGES")?.map(|pages| pages as usize) },
         b"load" => Statement::Load { address: address(words)?, size: size(words, "SIZE")? },
         b"fetch" => Statement::Fetch { address: address(words)?, size: size(words, "SIZE")? },
         b"store" => Statement::Store { address: address(words)?, size: size(words, "SIZE")?, value: words.number("VALUE")? },
         b"load-span" => Statement::LoadSpan { address: address(words)?, length: size(words, "LENGTH")? },
         b"store-span" => Statement::StoreSpan { address: address(words)?, bytes: words.bytes("BYTES")? },
         b"translate" => Statement::Translate { kind: kind(words)?, address: address(words)?, length: size(words, "LENGTH")? },
-        b"call" => Statement::Call { program: words.short("PROGRAM")?, register: optional(words)? },
+        b"call" => Statement::Call { program: words.short("PROGRAM")?, register: optional(words, "VALUE")?.unwrap_or(0) },
         b"return" => Statement::Return,
         b"stack" => Statement::Resize { region: Region::Stack, pages: size(words, "N")? },
         b"heap" => Statement::Resize { region: Region::Heap, pages: size(words, "N")? },
@@ -104,8 +104,8 @@ fn buffer(words: &mut Words) -> Result<Buffer, Mistake> {
 }
 
 /// A number that may be left out.
-fn optional(words: &mut Words) -> Result<u64, Mistake> {
-    words.peek().map_or(Ok(0), |_| words.number("VALUE"))
+fn optional(words: &mut Words, what: &str) -> Result<Option<u64>, Mistake> {
+    words.peek().map(|_| words.number(what)).transpose()
 }
 
 /// What a statement is expected to be answered with, as its form names the words. Then the line ends.

@@ -6,9 +6,13 @@ use crate::reason::invocation;
 use hekthumar::Region;
 
 impl Session {
-    pub fn begin(&mut self, program: u16) -> Answer {
-        let answer = self.memory().begin(program);
-        self.plain(answer, |world, refusal| invocation::begin(world, program, refusal))
+    /// The begin with a stack page, or the one that takes the number of them.
+    pub fn begin(&mut self, program: u16, pages: Option<usize>) -> Answer {
+        let answer = match pages {
+            None => self.memory().begin(program),
+            Some(pages) => self.memory().begin_with_pages(program, pages),
+        };
+        self.plain(answer, |world, refusal| invocation::begin(world, program, pages.unwrap_or(1), refusal))
     }
 
     pub(super) fn call(&mut self, program: u16, register: u64) -> Answer {

@@ -12,7 +12,8 @@ const SOUND: [(&str, &str); 4] = [
 ];
 
 /// Over a snapshot with an account that is not valid.
-const NOT_SOUND: [(&str, &str); 3] = [
+const NOT_SOUND: [(&str, &str); 4] = [
+    ("reasons-begin", include_str!("../inputs/reasons-begin.txt")),
     ("reasons-invocations", include_str!("../inputs/reasons-invocations.txt")),
     ("reasons-not-valid", include_str!("../inputs/reasons-not-valid.txt")),
     ("reasons-copies", include_str!("../inputs/reasons-copies.txt")),

@@ -17,7 +17,7 @@ pub fn cases() -> Vec<Case> {
 
 /// What the statements print.
 fn statements() -> Vec<Case> {
-    let no_frames = "frames 0\nbegin 0\nstore 0x030001000000 1 1\nheap 1\nmap\n";
+    let no_frames = "frames 0\nbegin 0\nbegin 0 0\nstore 0x030001000000 1 1\nheap 1\nmap\n";
     vec![
         every_statement(),
         Case::script("run-no-frames", sound_mill(), no_frames),
@@ -31,10 +31,11 @@ fn statements() -> Vec<Case> {
 fn every_statement() -> Case {
     let mut page = booked_slots()[PAGE..].to_vec();
     page[8..10].copy_from_slice(&[0x22, 0x33]);
-    let regions = [entry(STACK, 0, 0, 4_095), entry(HEAP, 0, 0, 0), entry(HEAP, 0, 0, 1)];
-    let frames = [&[entry(COPY, 0, 1, 1)], regions.as_slice(), &[UNUSED; 2]].concat();
+    let begun = [entry(STACK, 0, 0, 4_095), entry(COPY, 0, 1, 1)];
+    let grown = [entry(STACK, 0, 0, 4_094), entry(HEAP, 0, 0, 0), entry(HEAP, 0, 0, 1)];
+    let frames = [begun.as_slice(), &grown, &[UNUSED]].concat();
     Case::script("script", mill(), include_str!("../inputs/script.txt"))
-        .leaves("kept-control", alone(1, 2, &frames))
+        .leaves("kept-control", alone(2, 2, &frames))
         .leaves("kept-list", list(&[(1, 1, &page)]))
 }
 

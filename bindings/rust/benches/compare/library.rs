@@ -30,8 +30,12 @@ pub fn store_span(s: &[u8], c: &mut [u8], p: &mut [u8], address: u64, bytes: &[u
     unsafe { sys::hekthumar_store_span(s.as_ptr(), s.len(), c.as_mut_ptr(), c.len(), p.as_mut_ptr(), p.len(), address, at, n) }
 }
 
-pub fn begin(s: &[u8], c: &mut [u8], p: &[u8], program: u16) -> u8 {
-    unsafe { sys::hekthumar_begin(s.as_ptr(), s.len(), c.as_mut_ptr(), c.len(), p.as_ptr(), p.len(), program) }
+pub fn begin(s: &[u8], c: &mut [u8], p: &mut [u8], program: u16) -> u8 {
+    unsafe { sys::hekthumar_begin(s.as_ptr(), s.len(), c.as_mut_ptr(), c.len(), p.as_mut_ptr(), p.len(), program) }
+}
+
+pub fn begin_pages(s: &[u8], c: &mut [u8], p: &mut [u8], program: u16, pages: usize) -> u8 {
+    unsafe { sys::hekthumar_begin_pages(s.as_ptr(), s.len(), c.as_mut_ptr(), c.len(), p.as_mut_ptr(), p.len(), program, pages) }
 }
 
 pub fn call(s: &[u8], c: &mut [u8], p: &[u8], program: u16, registers: &[u8]) -> u8 {

@@ -1,8 +1,9 @@
 //! Begin, call and return.
 
 use crate::plain_headers::{account, number, snapshot_valid, vm, PAGE, RECORD, RECORDS, TABLE};
+use crate::plain_resize::take;
 use crate::plain_search::{any_region, Entry, GROUP};
-use crate::plain_words::{put_u16, put_u32, u32_at};
+use crate::plain_words::{put_u32, u32_at};
 
 #[inline(always)]
 fn program_valid(s: &[u8], program: u16) -> Result<(), u8> {
@@ -14,23 +15,37 @@ fn program_valid(s: &[u8], program: u16) -> Result<(), u8> {
 }
 
 #[inline(always)]
-fn try_begin(s: &[u8], c: &mut [u8], p: &[u8], program: u16) -> Result<(), u8> {
+fn try_begin(s: &[u8], c: &mut [u8], p: &mut [u8], program: u16, pages: usize) -> Result<(), u8> {
     let frames = p.len() / PAGE;
     if !snapshot_valid(s) || frames > 1024 || !p.len().is_multiple_of(PAGE) || c.len() != TABLE + 8 * frames {
         return Err(1);
     }
+    if pages > 1 {
+        return Err(2);
+    }
     program_valid(s, program)?;
+    if pages > frames {
+        return Err(8);
+    }
     c.fill(0);
     for (i, word) in [frames, 1, RECORDS, TABLE].into_iter().enumerate() {
         put_u32(c, 4 * i, word as u32);
     }
-    put_u16(c, RECORDS + RECORD, program);
+    put_u32(c, RECORDS + RECORD, u32::from(program) | (pages as u32) << 16);
+    if pages == 1 {
+        take(c, p, 0, 2, 0, 0);
+    }
     Ok(())
 }
 
 #[inline(never)]
-pub fn begin(s: &[u8], c: &mut [u8], p: &[u8], program: u16) -> u8 {
-    number(try_begin(s, c, p, program))
+pub fn begin(s: &[u8], c: &mut [u8], p: &mut [u8], program: u16) -> u8 {
+    number(try_begin(s, c, p, program, 1))
+}
+
+#[inline(never)]
+pub fn begin_pages(s: &[u8], c: &mut [u8], p: &mut [u8], program: u16, pages: usize) -> u8 {
+    number(try_begin(s, c, p, program, pages))
 }
 
 #[inline(always)]

@@ -29,13 +29,19 @@ fn clear(p: &mut [u8], frames: Range<usize>) {
     p[PAGE * frames.start..PAGE * frames.end].fill(0);
 }
 
+/// Gives a frame to the k-th page of a region.
+#[inline(always)]
+pub fn take(c: &mut [u8], p: &mut [u8], frame: usize, region: u8, depth: usize, k: usize) {
+    c[TABLE..].as_chunks_mut().0[frame] = region_entry(region, depth, page_at(region, k));
+    clear(p, frame..frame + 1);
+}
+
 /// Frames that follow each other are cleared at once.
 #[inline(always)]
 fn grow(c: &mut [u8], p: &mut [u8], region: u8, depth: usize, pages: Range<usize>) -> Result<(), u8> {
     if pages.len() == 1 {
         let frame = free_frame(c).ok_or(8)?;
-        c[TABLE..].as_chunks_mut().0[frame] = region_entry(region, depth, page_at(region, pages.start));
-        clear(p, frame..frame + 1);
+        take(c, p, frame, region, depth, pages.start);
         return Ok(());
     }
     let entries: &mut [Entry] = c[TABLE..].as_chunks_mut().0;

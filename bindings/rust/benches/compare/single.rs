@@ -117,8 +117,14 @@ pub fn invocations(report: &mut Report) {
         report.row(
             &format!("begin, {frames} frames"),
             &mut World::begun(frames).grown(2).copied(0..8),
-            |w| library::begin(&w.s, &mut w.c, &w.p, black_box(0)),
-            |w| plain_invocations::begin(&w.s, &mut w.c, &w.p, black_box(0)),
+            |w| library::begin(&w.s, &mut w.c, &mut w.p, black_box(0)),
+            |w| plain_invocations::begin(&w.s, &mut w.c, &mut w.p, black_box(0)),
+        );
+        report.row(
+            &format!("begin with 0 pages, {frames} frames"),
+            &mut World::begun(frames).grown(2).copied(0..8),
+            |w| library::begin_pages(&w.s, &mut w.c, &mut w.p, black_box(0), black_box(0)),
+            |w| plain_invocations::begin_pages(&w.s, &mut w.c, &mut w.p, black_box(0), black_box(0)),
         );
         report.row(
             &format!("call and return, {frames} frames"),

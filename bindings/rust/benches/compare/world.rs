@@ -48,10 +48,10 @@ fn snapshot() -> Vec<u8> {
 }
 
 impl World {
-    /// A begun program with so many frames.
+    /// A program begun with so many frames, all of them free.
     pub fn begun(frames: usize) -> World {
         let mut w = World { s: snapshot(), c: vec![0; control_len(frames)], p: vec![0; pool_len(frames)] };
-        assert_eq!(library::begin(&w.s, &mut w.c, &w.p, 0), 0);
+        assert_eq!(library::begin_pages(&w.s, &mut w.c, &mut w.p, 0, 0), 0);
         w
     }
 

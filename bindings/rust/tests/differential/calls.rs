@@ -15,10 +15,10 @@ pub struct Weights([usize; KINDS]);
 impl Weights {
     /// Each history favours one kind, so that some go deep, some grow, some fill the pool.
     pub fn new(random: &Random) -> Weights {
-        let mut weights = [1, 1, 1, 14, 12, 5, 16, 8, 10, 6, 4, 14, 4, 5, 6];
+        let mut weights = [1, 1, 1, 1, 14, 12, 5, 16, 8, 10, 6, 4, 14, 4, 5, 6];
         let favoured = random.below(KINDS);
         // A begin undoes all that came before it, so it stays rare.
-        weights[favoured] *= if NAMES[favoured] == "begin" { 3 } else { 5 };
+        weights[favoured] *= if NAMES[favoured].starts_with("begin") { 3 } else { 5 };
         Weights(weights)
     }
 }
@@ -28,6 +28,7 @@ pub fn generate(random: &Random, world: &World, weights: &Weights) -> Call {
         "join" => Call::Join { segment: random.next() as u8, index: random.next() as u16, offset: wide_offset(random) },
         "split" => Call::Split { address: random.next() >> random.choose(&[0, 15, 16, 17, 24]) },
         "begin" => Call::Begin { program: program(random, world) },
+        "begin_pages" => Call::BeginPages { program: program(random, world), pages: stack_pages(random) },
         "translate" => translate(random, world),
         "load" => {
             let size = size(random);
@@ -60,11 +61,16 @@ pub fn generate(random: &Random, world: &World, weights: &Weights) -> Call {
     }
 }
 
-/// A begin that is accepted if any is.
-pub fn good_begin(world: &World) -> Call {
+/// A begin that is accepted if any is; without a frame that is the one with no pages.
+pub fn good_begin(random: &Random, world: &World) -> Call {
     let accepted = |header: Header, program: u16| Entry::read(&world.snapshot, &header, program, None).is_some_and(|entry| entry.exists);
     let program = Header::read(&world.snapshot).and_then(|header| (0..header.accounts as u16).find(|&program| accepted(header, program)));
-    Call::Begin { program: program.unwrap_or(0) }
+    let program = program.unwrap_or(0);
+    match random.below(3) {
+        0 if world.frames() > 0 => Call::Begin { program },
+        1 if world.frames() > 0 => Call::BeginPages { program, pages: 1 },
+        _ => Call::BeginPages { program, pages: 0 },
+    }
 }
 
 fn wide_offset(random: &Random) -> u32 {
@@ -75,6 +81,14 @@ fn wide_offset(random: &Random) -> u32 {
 fn program(random: &Random, world: &World) -> u16 {
     let any = random.below(world.accounts().max(1));
     random.choose(&[0, 0, 1, 1, any, any, any, any, any, random.choose(&[world.accounts(), 0x100, 0xFFFF])]) as u16
+}
+
+/// Numbers of pages that a begin refuses. The low bits of most are those of 0 or 1.
+pub const WRONG_STACK_PAGES: [usize; 11] =
+    [2, 3, 0x100, 0x101, 0x1_0000, 0x1_0001, 1 << 32, (1 << 32) + 1, 1 << 63, (1 << 63) + 1, usize::MAX];
+
+fn stack_pages(random: &Random) -> usize {
+    random.choose(&[0, 1, random.choose(&WRONG_STACK_PAGES)])
 }
 
 fn registers(random: &Random) -> Bytes {

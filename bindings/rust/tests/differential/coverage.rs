@@ -3,6 +3,7 @@
 use std::collections::BTreeMap;
 
 use crate::absences::Absences;
+use crate::begins::Begins;
 use crate::interface::{Answer, Call, KINDS, NAMES};
 use crate::model::Why;
 
@@ -10,12 +11,14 @@ pub const NUMBERS: usize = 14;
 
 /// "1 for headers, buffer lengths and frame D"
 const FIRST: [Why; 4] = [Why::Snapshot, Why::Control, Why::Pool, Why::Record];
+/// The first 1 of a begin, which reads nothing of the control block.
+pub const BEGIN: [Why; 3] = [Why::Snapshot, Why::Control, Why::Pool];
 /// What every access asks between the first 1 and permission. An access of a single value is never 6, since it is aligned; a span is
 /// never 5.
 const REACH: [Why; 6] = [Why::Length, Why::UpperBits, Why::NoSegment, Why::NoAccount, Why::Entry, Why::NotPresent];
 /// What a store asks beyond a load.
 const STORE: [Why; 3] = [Why::Forbidden, Why::Tag, Why::NoFreeFrame];
-const PROGRAM: [Why; 3] = [Why::NoAccount, Why::Entry, Why::AbsentProgram];
+pub const PROGRAM: [Why; 3] = [Why::NoAccount, Why::Entry, Why::AbsentProgram];
 
 /// The refusals that the papers name for each kind of call, in the order of `NAMES`. Loads are allowed in every row, so they give no
 /// 7 and no 8. A fetch gives 7 outside 0/3, so it never asks for the frame of a stack or heap page.
@@ -24,7 +27,8 @@ fn possible(kind: usize) -> Vec<Why> {
     match NAMES[kind] {
         "join" => vec![WideOffset],
         "split" => vec![UpperBits],
-        "begin" => [&[Snapshot, Control, Pool][..], &PROGRAM].concat(),
+        "begin" => [&BEGIN[..], &PROGRAM, &[NoFreeFrame]].concat(),
+        "begin_pages" => [&BEGIN[..], &PROGRAM, &[StackPages, NoFreeFrame]].concat(),
         "translate" => [&FIRST[..], &REACH, &STORE, &[UnknownKind, Misaligned, Crossing, Unclaimed]].concat(),
         "load" => [&FIRST[..], &REACH, &[Misaligned, Unclaimed]].concat(),
         "fetch" => [&FIRST[..], &REACH, &[Misaligned, Forbidden]].concat(),
@@ -49,6 +53,7 @@ pub struct Coverage {
     /// How often a translation answered each place.
     places: [u64; 6],
     absences: Absences,
+    pub begins: Begins,
     pub histories: u64,
     pub calls: u64,
 }
@@ -85,6 +90,7 @@ impl Coverage {
         let unseen = |place: &usize| self.places[*place] == 0;
         faults.extend((0..6).filter(unseen).map(|place| format!("translate never answered place {place}")));
         faults.extend(self.absences.faults());
+        faults.extend(self.begins.faults());
         faults
     }
 
@@ -103,5 +109,6 @@ impl Coverage {
             println!("{name}: {}", text.join(", "));
         }
         self.absences.print();
+        self.begins.print();
     }
 }

@@ -63,7 +63,7 @@ impl Run<'_> {
             let call = calls::generate(&self.random, &self.library, &weights);
             self.step(call)?;
         }
-        self.step(calls::good_begin(&self.library))?;
+        self.step(calls::good_begin(&self.random, &self.library))?;
         for _ in 0..40 + self.random.below(60) {
             if self.plan.damaged && self.random.chance(35) {
                 self.damaged_step(&weights)?;
@@ -95,6 +95,7 @@ impl Run<'_> {
 
     fn step(&mut self, call: Call) -> Result<(), String> {
         let (mut by_library, mut by_model) = (call.clone(), call.clone());
+        let due = model::begin_refusals(&mut self.model, &call);
         let given = library::run(&mut self.library, &mut by_library);
         let (expected, why) = model::run(&mut self.model, &mut by_model, self.plan.bug);
         let difference = buffers(&self.library, &by_library).first_difference(buffers(&self.model, &by_model));
@@ -104,6 +105,7 @@ impl Run<'_> {
             return Err(self.place(&format!("{}\n{answers}\n{bytes}", call.describe())));
         }
         self.coverage.record(&call, &given, why);
+        self.coverage.begins.record(&call, &self.library, &due);
         let replayed = self.replayed(&by_library, &given);
         self.calls += 1;
         replayed.map_err(|text| self.place(&format!("{}\n{text}", call.describe())))

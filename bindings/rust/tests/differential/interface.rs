@@ -29,6 +29,7 @@ pub enum Call {
     Join { segment: u8, index: u16, offset: u32 },
     Split { address: u64 },
     Begin { program: u16 },
+    BeginPages { program: u16, pages: usize },
     Translate { kind: u8, address: u64, length: usize },
     Load { address: u64, size: usize },
     Fetch { address: u64, size: usize },
@@ -43,11 +44,12 @@ pub enum Call {
     PageView { account: u16, page: u16 },
 }
 
-pub const KINDS: usize = 15;
+pub const KINDS: usize = 16;
 pub const NAMES: [&str; KINDS] = [
     "join",
     "split",
     "begin",
+    "begin_pages",
     "translate",
     "load",
     "fetch",
@@ -69,18 +71,19 @@ impl Call {
             Call::Join { .. } => 0,
             Call::Split { .. } => 1,
             Call::Begin { .. } => 2,
-            Call::Translate { .. } => 3,
-            Call::Load { .. } => 4,
-            Call::Fetch { .. } => 5,
-            Call::Store { .. } => 6,
-            Call::LoadSpan { .. } => 7,
-            Call::StoreSpan { .. } => 8,
-            Call::Invoke { .. } => 9,
-            Call::Return { .. } => 10,
-            Call::Resize { .. } => 11,
-            Call::ChangeList { .. } => 12,
-            Call::Apply { .. } => 13,
-            Call::PageView { .. } => 14,
+            Call::BeginPages { .. } => 3,
+            Call::Translate { .. } => 4,
+            Call::Load { .. } => 5,
+            Call::Fetch { .. } => 6,
+            Call::Store { .. } => 7,
+            Call::LoadSpan { .. } => 8,
+            Call::StoreSpan { .. } => 9,
+            Call::Invoke { .. } => 10,
+            Call::Return { .. } => 11,
+            Call::Resize { .. } => 12,
+            Call::ChangeList { .. } => 13,
+            Call::Apply { .. } => 14,
+            Call::PageView { .. } => 15,
         }
     }
 

@@ -8,6 +8,8 @@
 //! `cargo test --test differential -- --nocapture` prints the coverage, and after how many histories each planted bug was told apart.
 
 mod absences;
+mod begin_trials;
+mod begins;
 mod bytes;
 mod calls;
 mod coverage;

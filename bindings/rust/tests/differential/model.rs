@@ -1,6 +1,7 @@
 //! The papers' rules in plain safe Rust over the raw buffers, written for clarity alone. Each rule cites the paper's sentence.
 
 mod access;
+mod begin;
 mod bug;
 mod control;
 mod invocation;
@@ -39,6 +40,7 @@ pub fn run(world: &mut World, call: &mut Call, bug: Option<Bug>) -> (Answer, Opt
         Call::Join { segment, index, offset } => answer(join(*segment, *index, *offset, bug), Answer::Joined),
         Call::Split { address } => answer(split(*address, bug), Answer::Fields),
         Call::Begin { program } => done(vm.begin(*program)),
+        Call::BeginPages { program, pages } => done(vm.begin_pages(*program, *pages)),
         Call::Translate { kind, address, length } => answer(translate(&vm, *kind, *address, *length), Answer::Place),
         Call::Load { address, size } => answer(load(&vm, Kind::Load, *address, *size), Answer::Value),
         Call::Fetch { address, size } => answer(load(&vm, Kind::Fetch, *address, *size), Answer::Value),
@@ -51,6 +53,16 @@ pub fn run(world: &mut World, call: &mut Call, bug: Option<Bug>) -> (Answer, Opt
         Call::ChangeList { out } => done(vm.change_list(&mut out.0)),
         Call::Apply { list, account, data } => done(list::apply(&list.0, *account, &mut data.0, bug)),
         Call::PageView { account, page } => answer(vm.page_view(*account, *page).map(view), Answer::View),
+    }
+}
+
+/// All that a begin is refused for, the first of which it tells; nothing for any other call.
+pub fn begin_refusals(world: &mut World, call: &Call) -> Vec<Why> {
+    let vm = Vm { world, bug: None };
+    match call {
+        Call::Begin { program } => vm.begin_refusals(*program, 1),
+        Call::BeginPages { program, pages } => vm.begin_refusals(*program, *pages),
+        _ => vec![],
     }
 }
 

@@ -13,13 +13,14 @@ use crate::model::snapshot::{Entry, Header};
 #[derive(Clone, Copy, Debug, PartialEq, Eq)]
 pub enum Slip {
     ForgetsBegin,
+    PlainBeginOnly,
     LosesEqualStore,
     OverlapShared,
     LosesSpans,
 }
 
 impl Slip {
-    pub const ALL: [Slip; 4] = [Slip::ForgetsBegin, Slip::LosesEqualStore, Slip::OverlapShared, Slip::LosesSpans];
+    pub const ALL: [Slip; 5] = [Slip::ForgetsBegin, Slip::PlainBeginOnly, Slip::LosesEqualStore, Slip::OverlapShared, Slip::LosesSpans];
 }
 
 /// "for each account with a fit entry, a plain copy of its data, apart from any other account's"
@@ -46,12 +47,12 @@ impl Replay {
     /// Takes in a call that the library has answered, and checks the bytes that a load gave.
     pub fn observe(&mut self, call: &Call, answer: &Answer) -> Result<(), String> {
         // "every refused one, leaves all as it is"; before the first begin frames may hold anything, and nothing is claimed.
-        let counts = self.begun || matches!(call, Call::Begin { .. });
+        let counts = self.begun || self.is_begin(call);
         if answer.number() != 0 || !counts {
             return Ok(());
         }
         match (call, answer) {
-            (Call::Begin { .. }, _) => self.begin(),
+            _ if self.is_begin(call) => self.begin(),
             (Call::Store { address, size, value }, _) => self.store(*address, &value.to_le_bytes()[..*size]),
             (Call::StoreSpan { .. }, _) if self.slip == Some(Slip::LosesSpans) => {}
             (Call::StoreSpan { address, bytes }, _) => self.store(*address, &bytes.0),
@@ -60,6 +61,11 @@ impl Replay {
             _ => {}
         }
         Ok(())
+    }
+
+    /// "where demand 3 says begin, it means either"
+    fn is_begin(&self, call: &Call) -> bool {
+        matches!(call, Call::Begin { .. }) || (matches!(call, Call::BeginPages { .. }) && self.slip != Some(Slip::PlainBeginOnly))
     }
 
     /// "An accepted begin sets every plain copy to the ground's bytes and empties the set."

@@ -13,7 +13,7 @@ const TRANSACTION: usize = 0x4D;
 const DATA: usize = 6000;
 
 /// Account 5 has this many bytes, which the program, account 5 too, owns and may write; the others do not exist.
-fn world(contexts: usize, length: usize) -> World {
+pub fn world(contexts: usize, length: usize) -> World {
     let contexts_at = SNAPSHOT_HEADER + ACCOUNT_ENTRY * ACCOUNTS;
     let transaction_at = contexts_at + CONTEXT * contexts;
     let data_at = transaction_at + TRANSACTION;
@@ -50,9 +50,10 @@ pub fn expect(world: &mut World, call: Call, number: u8) -> Call {
     expect_with(world, call, number, 0)
 }
 
+/// 01's begin, which 02 keeps as the one with no pages.
 pub fn begun_with(contexts: usize, length: usize) -> World {
     let mut world = world(contexts, length);
-    expect(&mut world, Call::Begin { program: 5 }, 0);
+    expect(&mut world, Call::BeginPages { program: 5, pages: 0 }, 0);
     world
 }
 

@@ -84,11 +84,40 @@ bugs! {
     FreeingKeepsLastWord,
     TakingKeepsLastWord,
 
-    // Invocations and regions.
-    TagMustExceedDepth,
+    // The begins.
     BeginKeepsFrameTable,
     BeginAsksControlHeader,
     BeginOfAbsentProgram,
+    PlainBeginTakesNoPage,
+    NoPagesTakesPage,
+    NoPagesZeroesFrame,
+    NoPagesNeedsFrame,
+    TwoPagesTakenAsOne,
+    /// The low 8 bits of the number of pages alone.
+    PagesAsByte,
+    PagesAs32Bits,
+    PagesBeforeBuffers,
+    PagesAfterProgram,
+    NoFrameBeforeProgram,
+    NoFrameBeforePages,
+    /// F = 0 is accepted with one page.
+    BeginWithoutFrames,
+    BeginTakesLastFrame,
+    BeginPageIsHeap,
+    BeginPageTagOne,
+    /// Page 4,094.
+    BeginPageBelowTop,
+    /// Page 0.
+    BeginPageFromBottom,
+    BeginPageNotZeroed,
+    BeginZeroesPastFrame,
+    BeginLeavesStackSize,
+    /// One refused with 8.
+    RefusedBeginClearsControl,
+    RefusedBeginZeroesFrame,
+
+    // Invocations and regions.
+    TagMustExceedDepth,
     CallDropsSizes,
     CallKeepsPadding,
     CallAtFifteenRefused,

@@ -1,14 +1,13 @@
-//! Begin, call, return and resize.
+//! Call, return and resize.
 
 use super::bug::Bug;
 use super::control::FrameEntry;
-use super::snapshot::Header;
 use super::why::Why;
 use super::Vm;
 use crate::bytes::*;
 
 /// The page number at a distance from a region's base, whose highest page is the stack's base; or the distance of a page number.
-fn from_base(region: u8, place: usize) -> usize {
+pub fn from_base(region: u8, place: usize) -> usize {
     if region == STACK {
         (MAX_PAGES - 1).wrapping_sub(place)
     } else {
@@ -17,38 +16,6 @@ fn from_base(region: u8, place: usize) -> usize {
 }
 
 impl Vm<'_> {
-    pub fn begin(&mut self, program: u16) -> Result<(), Why> {
-        // "1 (ground; ledger length 4,504+8F for some F in range; pool 4,096F)"
-        let header = Header::read(&self.world.snapshot).ok_or(Why::Snapshot)?;
-        let length = self.world.control.len();
-        let frames = (0..=MAX_FRAMES).find(|frames| length == TABLE_AT + FRAME_ENTRY * frames).ok_or(Why::Control)?;
-        if self.world.pool.len() != PAGE * frames {
-            return Err(Why::Pool);
-        }
-        if self.has(Bug::BeginAsksControlHeader) && u32_at(&self.world.control, 0) as usize != frames {
-            return Err(Why::Control);
-        }
-        self.check_program(&header, program)?;
-        // "It writes the whole ledger: header with D=1, frame 1 with that program and no pages, zeros elsewhere. Pool stays."
-        let cleared = if self.has(Bug::BeginKeepsFrameTable) { TABLE_AT } else { length };
-        self.world.control[..cleared].fill(0);
-        for (word, value) in [frames, 1, RECORDS_AT, TABLE_AT].into_iter().enumerate() {
-            put_u32(&mut self.world.control, 4 * word, value as u32);
-        }
-        let record_at = self.record_at(1);
-        put_u16(&mut self.world.control, record_at, program);
-        Ok(())
-    }
-
-    /// "4 (not below A), 1 (entry unfit), 4 (does not exist)"
-    fn check_program(&self, header: &Header, program: u16) -> Result<(), Why> {
-        if usize::from(program) >= header.accounts {
-            return Err(Why::NoAccount);
-        }
-        let exists = self.entry(header, program)?.exists || self.has(Bug::BeginOfAbsentProgram);
-        exists.then_some(()).ok_or(Why::AbsentProgram)
-    }
-
     pub fn call(&mut self, program: u16, registers: &[u8]) -> Result<(), Why> {
         // "1, 2, 9, then 4 and entry as for begin"
         let header = self.valid()?;

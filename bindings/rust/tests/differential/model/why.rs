@@ -1,4 +1,4 @@
-//! Why a call is refused: finer than the papers' numbers, so that coverage can tell the several 1s, 3s, 4s, 7s, 12s and 13s apart.
+//! Why a call is refused: finer than the papers' numbers, so that coverage can tell the several 1s, 2s, 3s, 4s, 7s, 12s and 13s apart.
 
 #[derive(Clone, Copy, Debug, PartialEq, Eq, PartialOrd, Ord)]
 pub enum Why {
@@ -14,6 +14,7 @@ pub enum Why {
     CopiedTwice,
     UnknownKind,
     Length,
+    StackPages,
     UpperBits,
     WideOffset,
     NoSegment,
@@ -42,7 +43,7 @@ impl Why {
         match self {
             Snapshot | Control | Pool | Record | Entry | Unclaimed => 1,
             CopyOfNoAccount | CopyOfInvalidEntry | CopyWithoutLiveBytes | CopiedTwice => 1,
-            UnknownKind | Length => 2,
+            UnknownKind | Length | StackPages => 2,
             UpperBits | WideOffset => 3,
             NoSegment | NoAccount | AbsentProgram => 4,
             Misaligned => 5,

@@ -1,5 +1,4 @@
 -- `hekthumar::invocations::hekthumar_begin` meets its contract: it hands on what begin gives, which is the step. Assumes nothing.
-use mathlib.Core.Path.{refl}
 use borrow.Author.Needs.{needs}
 use Rattle.hekthumar.specs.Steps.{stepOf}
 use Rattle.hekthumar.proofs.invocations.hekthumar_begin.Statement.{statement}
@@ -7,7 +6,7 @@ use Rattle.hekthumar.proofs.invocations.hekthumar_begin.Tie as tie
 
 returns : tie.Need-returns
 unfolding stepOf
-returns c = let x = c .before .before .begin .ensures in (x .0, (x .1, refl))
+returns c = c .before .before .before .before .begin .ensures
 
 pub hekthumar-begin-spec : {M : Type 1} → statement M
-hekthumar-begin-spec = tie.close (tie.spec (λ c κs. search needs) (λ c. search needs) returns)
+hekthumar-begin-spec = tie.close (tie.spec (λ c κs. search needs) (λ c. search needs) (λ c. search needs) returns)

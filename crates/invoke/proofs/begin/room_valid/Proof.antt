@@ -18,28 +18,31 @@ module _ (control pool : ℕ) where
   unfolding roomValid
   too-short h = rw (lt-leb _ _ h)
 
-  module _ (l : tableAt ≤ control) where
+  module _ (l : tableAt ≤ control) {f : ℕ} (e : f ≡ framesIn control) where
     -- room for too many frames
-    too-long : frameLimit < framesIn control → false ≡ roomValid control pool
+    too-long : frameLimit < f → false ≡ roomValid control pool
     unfolding roomValid
-    too-long h = rw (le-leb _ _ l, lt-leb _ _ h)
+    too-long h = rw (le-leb _ _ l, ← e, lt-leb _ _ h)
 
-    module _ (m : framesIn control ≤ frameLimit) where
+    module _ (m : f ≤ frameLimit) where
       -- bytes left over
-      uneven : (control ≡ controlLength (framesIn control) → ⊥) → false ≡ roomValid control pool
+      uneven : (control ≡ controlLength f → ⊥) → false ≡ roomValid control pool
       unfolding roomValid
-      uneven h = rw (le-leb _ _ l, le-leb _ _ m, ne-eqb _ _ h)
+      uneven h = rw (le-leb _ _ l, ← e, le-leb _ _ m, ne-eqb _ _ h)
 
       -- the pool decides
-      pool-decides : control ≡ controlLength (framesIn control) → eqb pool (poolLength (framesIn control)) ≡ roomValid control pool
+      pool-decides : control ≡ controlLength f → eqb pool (poolLength f) ≡ roomValid control pool
       unfolding roomValid
-      pool-decides h = rw (le-leb _ _ l, le-leb _ _ m, eq-eqb _ _ h)
+      pool-decides h = rw (le-leb _ _ l, ← e, le-leb _ _ m, eq-eqb _ _ h)
 
 returns : tie.Need-returns
 returns c = too-short _ _ (c .if1 .taken)
 
+frames-in-requires : tie.Need-frames-in-requires
+frames-in-requires c κs = c .if1 .left
+
 returns-2 : tie.Need-returns-2
-returns-2 c = too-long _ _ (c .before .if1 .left) (c .if2 .taken)
+returns-2 c = too-long _ _ (c .before .before .if1 .left) (c .before .frames-in .ensures) (c .if2 .taken)
 
 mul-if3 : tie.Need-mul-if3
 mul-if3 c = omega arith
@@ -48,14 +51,18 @@ add-if3 : tie.Need-add-if3
 add-if3 c = omega arith
 
 returns-3 : tie.Need-returns-3
-returns-3 c = uneven _ _ (c .before .before .if1 .left) (c .before .if2 .left) (c .if3 .taken)
+returns-3 c =
+    let d = c .before .before in
+    uneven _ _ (d .before .if1 .left) (d .frames-in .ensures) (c .before .if2 .left) (c .if3 .taken)
 
 mul-result : tie.Need-mul-result
 mul-result c = omega arith
 
 returns-4 : tie.Need-returns-4
-returns-4 c = pool-decides _ _ (c .before .before .if1 .left) (c .before .if2 .left) (c .if3 .left)
+returns-4 c =
+    let d = c .before .before in
+    pool-decides _ _ (d .before .if1 .left) (d .frames-in .ensures) (c .before .if2 .left) (c .if3 .left)
 
 pub room-valid-spec : {M : Type 1} → statement M
 room-valid-spec =
-    tie.close (tie.spec returns returns-2 mul-if3 add-if3 returns-3 mul-result returns-4)
+    tie.close (tie.spec returns frames-in-requires returns-2 mul-if3 add-if3 returns-3 mul-result returns-4)

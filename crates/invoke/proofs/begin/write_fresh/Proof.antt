@@ -22,17 +22,17 @@ unfolding headerBytes wordBytes splice
 four-words z f d = refl
 
 -- the writes in order
-written : (c : List ℕ) (x : Start) {z c₁ c₂ c₃ c₄ c₅ : List ℕ} → z ≡ splice c 0 (zeros (length c))
-    → c₁ ≡ splice z 0 (wordBytes 4 (framesIn (length c)))
+written : (c : List ℕ) (x : Start) {f : ℕ} {z c₁ c₂ c₃ c₄ c₅ : List ℕ} → f ≡ framesIn (length c) → z ≡ splice c 0 (zeros (length c))
+    → c₁ ≡ splice z 0 (wordBytes 4 f)
     → c₂ ≡ splice c₁ 4 (wordBytes 4 1) → c₃ ≡ splice c₂ 8 (wordBytes 4 shadowAt) → c₄ ≡ splice c₃ 12 (wordBytes 4 tableAt)
     → c₅ ≡ splice c₄ (recordAt 1) (wordBytes 2 (x .program .0)) → c₅ ≡ fresh (length c) x
 unfolding fresh
-written c x e e₁ e₂ e₃ e₄ e₅ =
+written c x n e e₁ e₂ e₃ e₄ e₅ =
     e₅
-    ∙ rw (e₄, e₃, e₂, e₁, e, splice-whole c (zeros (length c)) (length-zeros (length c)), four-words (zeros (length c)) (framesIn (length c)) 1)
+    ∙ rw (e₄, e₃, e₂, e₁, n, e, splice-whole c (zeros (length c)) (length-zeros (length c)), four-words (zeros (length c)) (framesIn (length c)) 1)
 
-sub-frames : tie.Need-sub-frames
-sub-frames c = search needs
+frames-in-requires : tie.Need-frames-in-requires
+frames-in-requires c κs = search needs
 
 clear-requires : tie.Need-clear-requires
 clear-requires c κs = search needs
@@ -84,13 +84,14 @@ returns c =
     let d₃ = shadow-of d₄ in
     let d₂ = live-of d₃ in
     let d₁ = frames-of d₂ in
-    written _ _ (cleared-of d₁ .clear .ensures) (d₁ .write .ensures) (d₂ .write2 .ensures) (d₃ .write3 .ensures) (d₄ .write4 .ensures) (d₅ .write5 .ensures)
+    let d₀ = cleared-of d₁ in
+    written _ _ (d₀ .before .before .frames-in .ensures) (d₀ .clear .ensures) (d₁ .write .ensures) (d₂ .write2 .ensures) (d₃ .write3 .ensures) (d₄ .write4 .ensures) (d₅ .write5 .ensures)
 
 pub write-fresh-spec : {M : Type 1} → statement M
 write-fresh-spec =
     tie.close
     (tie.spec
-    sub-frames
+    frames-in-requires
     clear-requires
     write-requires
     write-requires-2
