@@ -197,7 +197,8 @@ hekthumar_outcome hekthumar_store_span(const uint8_t *snapshot, size_t snapshot_
 uint8_t hekthumar_call(const uint8_t *snapshot, size_t snapshot_len, uint8_t *control, size_t control_len, const uint8_t *pool,
                        size_t pool_len, uint16_t program, const uint8_t *registers, size_t registers_len);
 
-/* Returns from the current invocation; its 256 bytes of registers go into `registers`. Refusals: 1, 2, 9. */
+/* Returns from the current invocation; its 256 bytes of registers go into `registers`. Its stack pages are freed; its heap pages stay and are
+ * the caller's. Refusals: 1, 2, 9. */
 uint8_t hekthumar_return(const uint8_t *snapshot, size_t snapshot_len, uint8_t *control, size_t control_len, const uint8_t *pool,
                          size_t pool_len, uint8_t *registers, size_t registers_len);
 

@@ -1,5 +1,6 @@
 #include "machine.h"
 
+#include "calls.h"
 #include "guest/layout.h"
 #include "routing.h"
 
@@ -54,22 +55,31 @@ static bool on_invalid(uc_engine *engine, uc_mem_type type, uint64_t address, in
     return false;
 }
 
+static void serve(struct machine *m, uint64_t service, const uint64_t *a) {
+    switch (service) {
+    case SERVICE_END:
+        m->status = a[0];
+        machine_stop(m);
+        break;
+    case SERVICE_STORE_SPAN: route_store_span(m, a[0], a[1], a[2]); break;
+    case SERVICE_CALL: route_call(m); break;
+    case SERVICE_RETURN: route_return(m); break;
+    case SERVICE_HEAP: route_heap(m, a[0]); break;
+    default: machine_fault(m, "the guest asks for an unknown service");
+    }
+}
+
 static void on_interrupt(uc_engine *engine, uint32_t cause, void *user) {
     struct machine *m = user;
     uint64_t service = 0, a[3] = {0};
     if (m->stopped) return;
-    uc_reg_read(engine, UC_RISCV_REG_A7, &service);
-    for (int i = 0; i < 3; i++) uc_reg_read(engine, UC_RISCV_REG_A0 + i, &a[i]);
     if (cause != CAUSE_ECALL) {
         machine_fault(m, "the processor traps");
-    } else if (service == SERVICE_END) {
-        m->status = a[0];
-        machine_stop(m);
-    } else if (service == SERVICE_STORE_SPAN) {
-        route_store_span(m, a[0], a[1], a[2]);
-    } else {
-        machine_fault(m, "the guest asks for an unknown service");
+        return;
     }
+    uc_reg_read(engine, UC_RISCV_REG_A7, &service);
+    for (int i = 0; i < 3; i++) uc_reg_read(engine, UC_RISCV_REG_A0 + i, &a[i]);
+    serve(m, service, a);
 }
 
 static uint64_t on_io_read(uc_engine *engine, uint64_t offset, unsigned size, void *user) {

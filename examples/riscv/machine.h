@@ -14,6 +14,8 @@
  *   the rest        What Unicorn itself would stop at (upper 16 bits set, a jump out of the program's pages) comes to on_invalid, which
  *                   asks the library for the number.
  *   spans           A service: one hekthumar_load_span and one hekthumar_store_span for each call of the guest.
+ *   calls           Services: hekthumar_call, hekthumar_return, and hekthumar_resize for the heap. The callee is a function of the same
+ *                   program; calls.h says what becomes of its registers and its stack.
  *
  * The first refusal stops the guest; nothing reaches the library after it.
  */

@@ -1,5 +1,7 @@
 #include "snapshot.h"
 
+#include "guest/layout.h"
+
 #include <string.h>
 
 enum { HEADER = 32, ENTRY = 80 };
@@ -47,4 +49,16 @@ uint8_t begin_program(struct buffers *b, uint16_t program) {
     uint8_t number = hekthumar_begin(LENT(b), program);
     if (number == 0) number = hekthumar_resize(LENT(b), HEKTHUMAR_HEAP, HEAP_PAGES);
     return number;
+}
+
+struct invocation current_invocation(const struct buffers *b) {
+    unsigned live = (unsigned)get_number(b->control + 4, 4);
+    const uint8_t *record = b->control + HEKTHUMAR_SHADOW_AT + HEKTHUMAR_SHADOW * live;
+    return (struct invocation){live - 1, (unsigned)get_number(record + 2, 2), (unsigned)get_number(record + 4, 2)};
+}
+
+unsigned frames_in_use(const struct buffers *b) {
+    unsigned used = 0;
+    for (size_t i = 0; i < FRAMES; i++) used += b->control[HEKTHUMAR_TABLE_AT + HEKTHUMAR_FRAME_ENTRY * i] != HEKTHUMAR_FREE;
+    return used;
 }

@@ -6,7 +6,7 @@
 
 #include <stdbool.h>
 
-enum { FRAMES = 8, SNAPSHOT_MAX = 65536, HEAP_PAGES = 1 };
+enum { FRAMES = 8, SNAPSHOT_MAX = 65536 };
 
 struct buffers {
     uint8_t snapshot[SNAPSHOT_MAX];
@@ -40,5 +40,13 @@ bool snapshot_build(struct buffers *b, const struct account *accounts, size_t co
 
 /* Begins a program, with the stack page that begin gives, and gives it its heap; the library's number. */
 uint8_t begin_program(struct buffers *b, uint16_t program);
+
+/* The current invocation, from its shadow record. */
+struct invocation {
+    unsigned depth, stack_pages, heap_pages;
+};
+struct invocation current_invocation(const struct buffers *b);
+
+unsigned frames_in_use(const struct buffers *b);
 
 #endif

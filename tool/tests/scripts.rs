@@ -7,7 +7,7 @@ use common::folder::Folder;
 use common::tool::{self, Came};
 use data::bytes::{patched, with_word};
 use data::control::{control, entry, record, UNUSED};
-use data::layout::{account_at, control_length, LENGTH, PAGE, STACK};
+use data::layout::{account_at, control_length, COPY, HEAP, LENGTH, PAGE, STACK};
 use data::{list, snapshot};
 use std::collections::BTreeSet;
 use std::fs;
@@ -33,6 +33,7 @@ fn scripts() -> Vec<Script> {
         over("edges", snapshot::trials(1, &snapshot::slots())),
         over("contexts", snapshot::trials(512, &snapshot::slots())),
         begin(),
+        heap(),
         inspect(),
         bookings(),
     ]
@@ -48,6 +49,31 @@ fn begin() -> Script {
     let without = [("empty-control", empty), ("empty-pool", poked)];
     let with = [("one-control", one.clone()), ("one-pool", zeroed.clone()), ("control", one), ("pool", zeroed)];
     Script { name: "begin", files: files.into(), left: without.into_iter().chain(with).collect() }
+}
+
+/// What the script keeps: with a list that was left, with pages left by two depths, and with entries outside the sizes.
+fn heap() -> Script {
+    let held = |pages, heap: [[u8; 8]; 4]| {
+        let frames = [[entry(STACK, 0, 0, 4_095), entry(COPY, 0, 5, 0)].as_slice(), &heap].concat();
+        control(&[record(0, 1, pages, &[])], &frames)
+    };
+    let page = |page, tag| entry(HEAP, tag, 0, page);
+    let controls = [
+        ("left-control", held(2, [page(0, 1), page(1, 1), UNUSED, UNUSED])),
+        ("nested-control", held(3, [page(0, 1), page(1, 2), page(2, 1), UNUSED])),
+        ("outside-control", held(0, [page(9, 5), UNUSED, entry(STACK, 0, 0, 0), UNUSED])),
+    ];
+    let pools =
+        [("left-pool", heap_pool([[11, 0x07_0000_001000], [33, 0], [0, 0]])), ("nested-pool", heap_pool([[77, 0], [99, 98], [97, 0]]))];
+    let files = vec![("snapshot", snapshot::trials(1, &snapshot::slots()))];
+    Script { name: "heap", files, left: controls.into_iter().chain(pools).collect() }
+}
+
+/// Six frames: the stack page, page 0 of account 5 with another first byte, three with two numbers each, zeros.
+fn heap_pool(numbers: [[u64; 2]; 3]) -> Vec<u8> {
+    let copy = patched(&snapshot::slots()[..PAGE], 0, &[0xee]);
+    let pool = patched(&[0; 6 * PAGE], PAGE, &copy);
+    numbers.iter().zip(2..).fold(pool, |pool, (cell, frame)| patched(&pool, frame * PAGE, &cell.map(u64::to_le_bytes).concat()))
 }
 
 /// Account 3 has no data, so that its entry is valid until the script damages it.

@@ -129,7 +129,7 @@ pub struct Invocation {
     pub program: u16,
     /// Pages of the stack.
     pub stack: u16,
-    /// Pages of the heap.
+    /// Pages of the heap. While callees run this is the number at the call; a return sets it to the number that the callee had.
     pub heap: u16,
     /// The registers that the caller handed over.
     pub registers: [u64; 32],

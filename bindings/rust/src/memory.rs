@@ -14,7 +14,8 @@ pub type Registers = [u8; 256];
 ///
 /// An access is refused for the first of these reasons that holds: a buffer is not valid, the size is wrong, the address has more than
 /// 48 bits, there is no such segment or account, the account's entry is not valid, the offset is misaligned, the segment or account
-/// forbids it, it crosses a page, a byte is not present, the stack or heap page has no frame or belongs to a caller, no frame is free.
+/// forbids it, it crosses a page, a byte is not present, the stack or heap page has no frame or was added at a lower call depth, no frame
+/// is free.
 /// Where a byte is not present, [`Refusal::Absent`] says how many bytes of the access come before it.
 ///
 /// ```
@@ -157,26 +158,51 @@ impl<'a> Memory<'a> {
         check_access(lend!(as_mut_ptr, self, hekthumar_store_span(address.0, bytes.as_ptr(), bytes.len())))
     }
 
-    /// Calls a program. The new invocation starts with its caller's stack and heap: it may load from all their pages, but store only to
-    /// pages that it adds. `registers` are kept for [`Memory::return_from`].
+    /// Calls a program. The new invocation starts with its caller's stack and heap and may load from all their pages. It may store to those
+    /// that were added at its depth or deeper: to its own, and to heap pages that an earlier callee left. `registers` are kept for
+    /// [`Memory::return_from`].
     ///
     /// Refused with [`Refusal::CallDepth`] at 16 live invocations, and [`Refusal::NoSegment`] if there is no such account.
     pub fn call(&mut self, program: u16, registers: &Registers) -> Result<(), Refusal> {
         check(lend!(as_mut_ptr, self, hekthumar_call(program, registers.as_ptr(), registers.len())))
     }
 
-    /// Returns to the caller: fills in the registers kept by [`Memory::call`] and frees the stack and heap pages that the invocation
-    /// added.
+    /// Returns to the caller: fills in the registers kept by [`Memory::call`], frees the stack pages that the invocation added, and hands
+    /// over the heap as it is. The caller then has as many heap pages as the invocation had, and may store to those that it added.
     ///
     /// Refused with [`Refusal::CallDepth`] if there is no caller.
+    ///
+    /// ```
+    /// # use hekthumar::*;
+    /// # let mut builder = SnapshotBuilder::new();
+    /// # let program = builder.account(Account::program([1, 2, 3, 4]));
+    /// # let helper = builder.account(Account::program([5, 6, 7, 8]));
+    /// # let snapshot = builder.build().unwrap();
+    /// # let (mut control, mut pool) = (vec![0; control_len(4)], vec![0; pool_len(4)]);
+    /// # let mut memory = Memory::new(&snapshot, &mut control, &mut pool);
+    /// memory.begin(program)?;
+    /// memory.call(helper, &[0; 256])?;
+    /// memory.resize(Region::Stack, 2)?;
+    /// memory.resize(Region::Heap, 1)?;
+    /// memory.store_u64(Address::heap(8)?, 42)?;
+    /// memory.return_from(&mut [0; 256])?;
+    ///
+    /// // The helper's stack page is gone, its heap page is the caller's.
+    /// assert_eq!(memory.load_u8(Address::stack(0xFF_E000)?), Err(Refusal::Absent { distance: 0 }));
+    /// assert_eq!(memory.load_u64(Address::heap(8)?), Ok(42));
+    /// memory.store_u64(Address::heap(8)?, 43)?;
+    /// memory.resize(Region::Heap, 0)?;
+    /// # Ok::<(), Refusal>(())
+    /// ```
     pub fn return_from(&mut self, registers: &mut Registers) -> Result<(), Refusal> {
         check(lend!(as_mut_ptr, self, hekthumar_return(registers.as_mut_ptr(), registers.len())))
     }
 
-    /// Gives the stack or heap this many pages. New pages are zeros.
+    /// Gives the stack or heap this many pages. New pages are zeros. Shrinking frees the pages that are farthest from the region's base.
     ///
     /// Refused with [`Refusal::RegionTooLarge`] above 4,096 pages, [`Refusal::OutOfFrames`] if fewer frames are free than growing needs,
-    /// and [`Refusal::NotPermitted`] if shrinking would free a caller's page.
+    /// and [`Refusal::NotPermitted`] if one of the pages that shrinking would free was added at a lower call depth. So a heap page that a
+    /// deeper invocation left stays as long as one behind it must stay.
     pub fn resize(&mut self, region: Region, pages: usize) -> Result<(), Refusal> {
         check(lend!(as_mut_ptr, self, hekthumar_resize(region as u8, pages)))
     }

@@ -26,7 +26,7 @@ pub enum Refusal {
     Misaligned,
     /// The span goes past a multiple of 4,096.
     CrossesPage,
-    /// The segment, the account's flag or owner, or the page's invocation forbids the access.
+    /// The segment, the account's flag or owner, or the call depth at which the page was added forbids the access.
     NotPermitted,
     /// More frames are needed than are free.
     OutOfFrames,

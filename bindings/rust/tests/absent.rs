@@ -1,5 +1,8 @@
 //! A byte that is not present: how far each access comes before it in every segment, and that nothing else has a distance.
 
+mod common;
+
+use common::Host;
 use hekthumar::sys::{self, Outcome, Value};
 use hekthumar::*;
 
@@ -12,15 +15,9 @@ const PROGRAM: u16 = 0;
 const SLOTS: u16 = 1;
 const NOBODY: u16 = 2;
 
-/// The buffers of a host: a program of 6 bytes, 5,005 bytes of data, a transaction of 11 bytes, two block contexts; one page each of stack
-/// and heap, unless there is no frame.
-struct Host {
-    snapshot: Vec<u8>,
-    control: Vec<u8>,
-    pool: Vec<u8>,
-}
-
 impl Host {
+    /// A program of 6 bytes, 5,005 bytes of data, a transaction of 11 bytes, two block contexts; one page each of stack and heap, unless
+    /// there is no frame.
     fn new(frames: usize) -> Host {
         let mut builder = SnapshotBuilder::new();
         builder.transaction(*b"transaction");
@@ -29,17 +26,12 @@ impl Host {
         builder.account(Account::program([0x13, 0, 0, 0, 1, 2]));
         builder.account(Account::data(PROGRAM, [7; 5_005]).writable());
         builder.account(Account::absent());
-        let (snapshot, control, pool) = (builder.build().unwrap(), vec![0; control_len(frames)], vec![0; pool_len(frames)]);
-        let mut host = Host { snapshot, control, pool };
+        let mut host = Host::filled(builder, frames, 0);
         let mut memory = host.memory();
         let pages = frames.min(1);
         memory.begin_with_pages(PROGRAM, pages).unwrap();
         memory.resize(Region::Heap, pages).unwrap();
         host
-    }
-
-    fn memory(&mut self) -> Memory<'_> {
-        Memory::new(&self.snapshot, &mut self.control, &mut self.pool)
     }
 }
 

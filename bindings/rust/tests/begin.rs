@@ -1,5 +1,8 @@
 //! Both begins: the bytes that they write, those that they leave, and the order of their refusals.
 
+mod common;
+
+use common::Host;
 use hekthumar::layout::{ACCOUNT_ENTRY, CONTROL_HEADER, FRAME_TABLE, SHADOW_RECORD, SNAPSHOT_HEADER};
 use hekthumar::*;
 
@@ -11,28 +14,17 @@ const NOBODY: u16 = 4;
 
 const FRAMES: [usize; 6] = [1, 2, 16, 17, 1_023, 1_024];
 
-/// The buffers of a host. Control block and pool start without a zero, so that every byte written shows.
-#[derive(Clone, Debug, PartialEq)]
-struct Host {
-    snapshot: Vec<u8>,
-    control: Vec<u8>,
-    pool: Vec<u8>,
-}
-
 impl Host {
+    /// Control block and pool start without a zero, so that every byte written shows.
     fn new(frames: usize) -> Host {
         let mut builder = SnapshotBuilder::new();
         builder.account(Account::program([0x13, 0, 0, 0]));
         builder.account(Account::absent());
         builder.account(Account::program([0x13, 0, 0, 0]));
         builder.account(Account::data(PROGRAM, [7; 8]).writable());
-        let mut snapshot = builder.build().unwrap();
-        snapshot[SNAPSHOT_HEADER + ACCOUNT_ENTRY * usize::from(SPOILED)] = 7;
-        Host { snapshot, control: vec![0xCC; control_len(frames)], pool: vec![0xCC; pool_len(frames)] }
-    }
-
-    fn memory(&mut self) -> Memory<'_> {
-        Memory::new(&self.snapshot, &mut self.control, &mut self.pool)
+        let mut host = Host::filled(builder, frames, 0xCC);
+        host.snapshot[SNAPSHOT_HEADER + ACCOUNT_ENTRY * usize::from(SPOILED)] = 7;
+        host
     }
 
     fn begin(&mut self, program: u16) -> Result<(), Refusal> {

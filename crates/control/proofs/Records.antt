@@ -161,3 +161,24 @@ pub pages-same : (c : List ℕ) (k : ℕ) (r : Region) (n : ℕ) → k ≤ liveL
 unfolding invocationOf setPages
 pages-same c k Stack n l long h = word-same 2 c (recordAt k + 2) n h (omega arith)
 pages-same c k Heap n l long h = word-same 2 c (recordAt k + 4) n h (omega arith)
+
+-- a record's fields with another size of a region
+abbrev pub withPages : Invocation → Region → ℕ → Invocation
+withPages i Stack n = record { program = i .program; stack = n; heap = i .heap }
+withPages i Heap n = record { program = i .program; stack = i .stack; heap = n }
+
+-- they are what the record reads
+pub pages-set : (c : List ℕ) (k : ℕ) (r : Region) (n : ℕ) → k ≤ liveLimit → tableAt ≤ length c → n < 65536
+    → invocationOf (setPages c k r n) k ≡ withPages (invocationOf c k) r n
+pages-set c k Stack n l long h = λ i.
+    record {
+      program = pages-program c k Stack n i;
+      stack = pages-same c k Stack n l long h i;
+      heap = pages-other c k Stack n Heap (λ e. omega (arith, ap regionAt e)) i;
+    }
+pages-set c k Heap n l long h = λ i.
+    record {
+      program = pages-program c k Heap n i;
+      stack = pages-other c k Heap n Stack (λ e. omega (arith, ap regionAt e)) i;
+      heap = pages-same c k Heap n l long h i;
+    }

@@ -1,9 +1,9 @@
--- A call and a return keep the invariant: a call writes one record more, and a return frees stack and heap frames and goes back to a
+-- A call and a return keep the invariant: a call writes one record more, and a return frees stack frames, hands its heap over and goes back to a
 -- record that is live. Assumes nothing.
-use Prim.Native.Nat.{ℕ, _+_, _≤_, _<_}
+use Prim.Native.Nat.{ℕ, _+_, _-_, _≤_, _<_}
 use mathlib.Core.Path.{_≡_, refl}
 use mathlib.Core.List.{List}
-use native.Mathlib.Decide.{decLt}
+use native.Mathlib.Decide.{decLt, ℕ-discrete}
 use native.Mathlib.Omega.{arith}
 use lib.ListN.{length}
 use Rattle.choice.proofs.Tests.{by-test}
@@ -18,7 +18,7 @@ use Rattle.frames.specs.Table.{frameEntryOf}
 use Rattle.frames.proofs.Entries.{EntryRange, zero-range}
 use Rattle.invoke.specs.Invoke.{callCheck, called, callControl, returnCheck, leaves, returned, returnControl}
 use Rattle.invoke.proofs.Accepted.{CallFacts, call-facts, ReturnFacts, return-facts, program-known, program-fits}
-use Rattle.invoke.proofs.Depth.{called-frames, called-invocations, called-valid, called-entry, called-invocation, called-new, returned-frames, returned-invocations, returned-valid, returned-entry, returned-copy, returned-invocation}
+use Rattle.invoke.proofs.Depth.{called-frames, called-invocations, called-valid, called-entry, called-invocation, called-new, returned-frames, returned-invocations, returned-valid, returned-entry, returned-copy, returned-invocation, returned-caller}
 use Rattle.regions.proofs.Pages.{claims-ext}
 use Rattle.hekthumar.specs.Steps.{call, return, stepOf}
 use Rattle.history.specs.Calls.{accepted, effect}
@@ -82,13 +82,20 @@ module _ {s : List ℕ} {b : Buffers} {r : Replay} (g : Good s b r) where
     return-shows : ReturnFacts s c (b .pool) size
     return-shows = return-facts s c (b .pool) size e
 
-    -- the records that stay live are as they were
+    -- the records that stay live are as they were, but for the caller's, which has the heap of the invocation that returns
     returned-record : (k : ℕ) → 1 ≤ k → k ≤ invocations (returned c) → LiveRecord s (returned c) k
     returned-record k l m =
         let f = return-shows in
         let w = f .buffers .control in
         let n = returned-invocations c w (f .above) in
-        record-same (returned-invocation c w (f .above) k (omega arith)) (g .records k l (omega arith))
+        elim (ℕ-discrete k (invocations c - 1)) [
+          | yes q ↦
+              let v = returned-caller c w (f .above) (accounts s) (f .buffers .current) in
+              let d : CurrentFacts c (accounts s) = current-facts c (accounts s) (f .buffers .current) in
+              let x : LiveRecord s c (invocations c - 1) = g .records (invocations c - 1) (omega arith) (omega arith) in
+              rw q (record { program = rw v (x .program); stack = rw v (x .stack); heap = rw v (d .few-heap) })
+          | no q ↦ record-same (returned-invocation c w (f .above) k (omega arith)) (g .records k l (omega arith))
+        ]
 
     -- an entry is as it was, or zeros
     returned-range : (i : ℕ) → i < frames c → EntryRange (frameEntryOf (returned c) i)

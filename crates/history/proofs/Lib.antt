@@ -16,3 +16,4 @@ pub mod Counted
 pub mod Applying
 pub mod Theorem
 pub mod FrameCount
+pub mod Heap

@@ -2,3 +2,4 @@ pub mod Calls
 pub mod Refusals
 pub mod Replay
 pub mod Claims
+pub mod Heap

@@ -1,5 +1,5 @@
--- One invocation more after a call, one less after a return: each writes one record and the number of live invocations, and a return frees
--- frames before that. Assumes nothing.
+-- One invocation more after a call, one less after a return: each writes one record and the number of live invocations. Before that a return frees
+-- frames and hands its heap over. Assumes nothing.
 use Prim.Native.Nat.{ℕ, _+_, _-_, _≤_, _<_}
 use mathlib.Core.Path.{_≡_, ap, _∙_}
 use mathlib.Core.Bool.{true}
@@ -8,17 +8,21 @@ use mathlib.Core.List.{List}
 use native.Mathlib.Omega.{arith}
 use lib.ListN.{length}
 use Rattle.layout.specs.Control.{liveLimit, registersSize}
+use Rattle.words.specs.Words.{wordBytes}
+use Rattle.words.proofs.Word.{length-wordBytes}
 use Rattle.snapshot.specs.declared.accounts.Account.{Account}
-use Rattle.control.specs.Control.{frames, invocations, depth, setInvocations, invocationOf, current, controlValid, currentValid}
+use Rattle.control.specs.Control.{frames, invocations, depth, setInvocations, recordAt, regionAt, invocationOf, current, setPages, controlValid, currentValid}
 use Rattle.control.specs.declared.shadow.Invocation.{Invocation}
+use Rattle.control.specs.declared.shadow.Region.the-variants.{Heap}
 use Rattle.control.proofs.Facts.{ControlFacts, CurrentFacts, control-facts, current-facts}
 use Rattle.control.proofs.Live.{live-frames, live-word, live-invocation, live-same, live-valid}
-use Rattle.control.proofs.Records.{OnlyRecord, invocation-other, header-kept, record-valid, table-kept, put-only, invocation-same, clear-only}
+use Rattle.control.proofs.Records.{OnlyRecord, invocation-other, header-kept, record-valid, table-kept, put-only, invocation-same, clear-only, pages-only, withPages, pages-set}
 use Rattle.pages.specs.declared.Page.{Page}
 use Rattle.frames.specs.Table.{frameEntryAt, frameField, frameEntryOf, holds, claims}
 use Rattle.frames.specs.declared.finding.Claim.the-variants.{Copy}
 use Rattle.frames.proofs.OnlyTable.{OnlyTable, table-frames, table-invocation, table-valid}
-use Rattle.invoke.specs.Invoke.{called, freedBelow, returned}
+use Rattle.frames.proofs.Untouched.{entry-above}
+use Rattle.invoke.specs.Invoke.{called, freedBelow, handOver, returned}
 use Rattle.invoke.proofs.Freed.{afterwards, freed-only, freed-entry, freed-copy}
 
 -- ---- record k and the number of live invocations written
@@ -99,6 +103,19 @@ module _ (c : List ℕ) (a : Account) (registers : List ℕ) (valid : controlVal
 abbrev left : List ℕ → List ℕ
 left c = freedBelow (depth c) c (frames c)
 
+-- and its heap handed over
+abbrev handed : List ℕ → List ℕ
+handed c = handOver c (left c)
+
+-- what the caller has then: its own program and stack, and the heap of the invocation that returned
+abbrev pub caller : List ℕ → Invocation
+caller c =
+    record {
+      program = invocationOf c (invocations c - 1) .program;
+      stack = invocationOf c (invocations c - 1) .stack;
+      heap = current c .heap;
+    }
+
 module _ (c : List ℕ) (valid : controlValid c ≡ true) (above : 1 < invocations c) where
   -- the header, by name
   facts : ControlFacts c
@@ -108,17 +125,29 @@ module _ (c : List ℕ) (valid : controlValid c ≡ true) (above : 1 < invocatio
   emptied : OnlyTable c (left c)
   emptied = freed-only (depth c) c (frames c)
 
-  -- where it writes behind the freed frames
-  return-moves : Moved (invocations c) (invocations c - 1) (left c) (returned c)
+  -- the heap is written in the caller's record
+  handed-only : OnlyRecord (invocations c - 1) (left c) (handed c)
+  unfolding handOver
+  handed-only = pages-only (left c) (invocations c - 1) Heap (current c .heap)
+
+  -- so no entry changes
+  handed-entry : (i : ℕ) → frameEntryOf (handed c) i ≡ frameEntryOf (left c) i
+  unfolding handOver setPages
+  handed-entry i =
+      entry-above (left c) (recordAt (invocations c - 1) + regionAt Heap) (wordBytes 2 (current c .heap))
+      (omega (arith, facts .few-live, length-wordBytes 2 (current c .heap))) i
+
+  -- where it writes behind that
+  return-moves : Moved (invocations c) (invocations c - 1) (handed c) (returned c)
   unfolding returned
   return-moves =
       let g : ControlFacts c = facts in
-      moved (invocations c) (invocations c - 1) (left c) (clear-only (left c) (invocations c)) (omega arith) (omega arith)
-      (omega arith) (table-valid emptied ∙ valid)
+      moved (invocations c) (invocations c - 1) (handed c) (clear-only (handed c) (invocations c)) (omega arith) (omega arith)
+      (omega arith) (record-valid (invocations c - 1) handed-only ∙ table-valid emptied ∙ valid)
 
   -- the frame count stays
   pub returned-frames : frames (returned c) ≡ frames c
-  returned-frames = return-moves .count ∙ table-frames emptied
+  returned-frames = return-moves .count ∙ header-kept (invocations c - 1) handed-only 4 0 (omega arith) ∙ table-frames emptied
 
   -- one invocation less is live
   pub returned-invocations : invocations (returned c) ≡ invocations c - 1
@@ -130,13 +159,29 @@ module _ (c : List ℕ) (valid : controlValid c ≡ true) (above : 1 < invocatio
 
   -- an entry is zeros where it leaves, else as it was
   pub returned-entry : (i : ℕ) → i < frames c → frameEntryOf (returned c) i ≡ afterwards (depth c) (frameEntryOf c i)
-  returned-entry i h = return-moves .entry i ∙ freed-entry (depth c) c (frames c) i h (omega (arith, facts .size))
+  returned-entry i h = return-moves .entry i ∙ handed-entry i ∙ freed-entry (depth c) c (frames c) i h (omega (arith, facts .size))
 
   -- every copy keeps its frame
   pub returned-copy : (a : Account) (p : Page) (i : ℕ) → claims (returned c) (Copy a p) i ≡ claims c (Copy a p) i
   unfolding claims
-  returned-copy a p i = ap (holds (Copy a p)) (return-moves .entry i) ∙ freed-copy (depth c) c (frames c) a p i (omega (arith, facts .size))
+  returned-copy a p i =
+      ap (holds (Copy a p)) (return-moves .entry i ∙ handed-entry i)
+      ∙ freed-copy (depth c) c (frames c) a p i (omega (arith, facts .size))
 
-  -- every record of an invocation that stays live stays: its program and sizes
-  pub returned-invocation : (j : ℕ) → j < invocations c → invocationOf (returned c) j ≡ invocationOf c j
-  returned-invocation j h = return-moves .invocation j (omega arith) ∙ table-invocation emptied j (omega (arith, facts .few-live))
+  -- every record below the caller's stays: its program and sizes
+  pub returned-invocation : (j : ℕ) → j < invocations c - 1 → invocationOf (returned c) j ≡ invocationOf c j
+  returned-invocation j h =
+      return-moves .invocation j (omega arith) ∙ invocation-other (invocations c - 1) handed-only j (omega arith)
+      ∙ table-invocation emptied j (omega (arith, facts .few-live))
+
+  -- the caller's has the heap of the invocation that returned
+  pub returned-caller : (n : ℕ) → currentValid c n ≡ true → invocationOf (returned c) (invocations c - 1) ≡ caller c
+  unfolding handOver
+  returned-caller n v =
+      let g : ControlFacts c = facts in
+      let f : CurrentFacts c n = current-facts c n v in
+      let k : ℕ = invocations c - 1 in
+      let was : invocationOf (left c) k ≡ invocationOf c k = table-invocation emptied k (omega arith) in
+      return-moves .invocation k (omega arith)
+      ∙ pages-set (left c) k Heap (current c .heap) (omega arith) (omega (arith, emptied .size)) (omega arith)
+      ∙ ap (λ (x : Invocation). withPages x Heap (current c .heap)) was

@@ -11,12 +11,10 @@ use native.Mathlib.Omega.{arith}
 use lib.ListN.{length}
 use lib.Dec.{leb, eqb}
 use borrow.Author.Tests.{eq-eqb, ne-eqb}
-use Rattle.layout.specs.Control.{usageCopy}
 use Rattle.choice.specs.Choice.{pick}
 use Rattle.choice.proofs.Tests.{by-test, differ, fails}
 use Rattle.snapshot.specs.declared.accounts.Account.{Account}
-use Rattle.control.specs.declared.shadow.Region.{Region}
-use Rattle.control.specs.declared.shadow.Region.the-variants.{Stack, Heap}
+use Rattle.control.specs.declared.shadow.Region.the-variants.{Stack}
 use Rattle.pages.specs.declared.Page.{Page}
 use Rattle.frames.specs.Table.{frameEntryAt, entryEnd, frameEntryOf, freeFrameEntry, zeroEntry, usageOf, holds, claims}
 use Rattle.frames.specs.Match.{NoneOf}
@@ -29,16 +27,15 @@ use Rattle.invoke.specs.Invoke.{leaves, freeLeaving, freedBelow}
 
 -- ---- which entries leave
 
--- the tag decides of a region's entry
-pub leaves-region : (d : ℕ) (r : Region) (e : FrameEntry) → e .usage ≡ usageOf r → leaves d e ≡ leb d (e .tag)
+-- the tag decides of a stack frame's entry
+pub leaves-stack : (d : ℕ) (e : FrameEntry) → e .usage ≡ usageOf Stack → leaves d e ≡ leb d (e .tag)
 unfolding leaves
-leaves-region d Stack e h = rw h
-leaves-region d Heap e h = rw h
+leaves-stack d e h = rw h
 
 -- no other leaves
-pub leaves-other : (d : ℕ) (e : FrameEntry) → ((r : Region) → e .usage ≢ usageOf r) → leaves d e ≡ false
+pub leaves-other : (d : ℕ) (e : FrameEntry) → e .usage ≢ usageOf Stack → leaves d e ≡ false
 unfolding leaves
-leaves-other d e h = rw (ne-eqb _ _ (h Stack), ne-eqb _ _ (h Heap))
+leaves-other d e h = rw (ne-eqb _ _ h)
 
 -- ---- the turns of a loop that looks at entry n
 
@@ -53,15 +50,15 @@ module _ (d : ℕ) (c : List ℕ) (n : ℕ) {x : List ℕ} (h : x ≡ freedBelow
   unfolding freedBelow freeLeaving
   turn-kept e = rw (add-one n, ← h, e)
 
--- a run of k entries from n on, none of a region: all stay
+-- a run of k entries from n on, none of the stack: all stay
 pub run-kept : (d : ℕ) (c : List ℕ) (n : ℕ) {x : List ℕ} → x ≡ freedBelow d c n → (k : ℕ)
-    → ((q : Region) → NoneOf (λ j. eqb (frameEntryOf x j .usage) (usageOf q)) n k) → x ≡ freedBelow d c (n + k)
+    → NoneOf (λ j. eqb (frameEntryOf x j .usage) (usageOf Stack)) n k → x ≡ freedBelow d c (n + k)
 run-kept d c n h zero none = let e : n + zero ≡ n = omega arith in rw e h
 run-kept d c n {x} h (suc k) none =
     let e : n + suc k ≡ n + k + 1 = omega arith in
     rw e
-    (turn-kept d c (n + k) (run-kept d c n h k (λ q j l m. none q j l (omega arith)))
-    (leaves-other d (frameEntryOf x (n + k)) (λ q u. differ _ (eq-eqb _ _ u) (none q (n + k) (omega arith) (omega arith)))))
+    (turn-kept d c (n + k) (run-kept d c n h k (λ j l m. none j l (omega arith)))
+    (leaves-other d (frameEntryOf x (n + k)) (λ u. differ _ (eq-eqb _ _ u) (none (n + k) (omega arith) (omega arith)))))
 
 -- ---- the step at entry n
 
@@ -114,11 +111,7 @@ module _ (d : ℕ) (c : List ℕ) where
 
 -- a copy does not leave
 copy-stays : (d : ℕ) (a : Account) (p : Page) (e : FrameEntry) → holds (Copy a p) e ≡ true → leaves d e ≡ false
-copy-stays d a p e h = leaves-other d e (region-no-copy (holds-copy a p e h .usage))
-  where
-    region-no-copy : e .usage ≡ usageCopy → (r : Region) → e .usage ≢ usageOf r
-    region-no-copy u Stack t = omega arith
-    region-no-copy u Heap t = omega arith
+copy-stays d a p e h = let u = holds-copy a p e h .usage in leaves-other d e (λ t. omega arith)
 
 -- a copy keeps its frame
 pub freed-copy : (d : ℕ) (c : List ℕ) (n : ℕ) (a : Account) (p : Page) (i : ℕ) → frameEntryAt n ≤ length c

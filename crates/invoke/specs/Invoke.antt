@@ -1,4 +1,5 @@
--- Document 01, "Begin, call, return, resize": begin, call and return; document 02, "Two": begin's stack. Assumes nothing.
+-- Document 01, "Begin, call, return, resize": begin, call and return; document 02, "Two": begin's stack, "Four": what a return leaves.
+-- Assumes nothing.
 use Prim.Native.Nat.{ℕ, zero, suc, _+_, _-_, _/_}
 use mathlib.Core.Bool.{Bool}
 use mathlib.Core.List.{List, _++_}
@@ -7,7 +8,7 @@ use lib.Dec.{ltb, leb, eqb}
 use Rattle.layout.specs.Page.{poolLength}
 use Rattle.layout.specs.Control.{shadowAt, tableAt, frameEntrySize, frameLimit, liveLimit, registersSize, controlLength}
 use Rattle.words.specs.Words.{wordBytes, splice, zeros}
-use Rattle.choice.specs.Choice.{pick, both, either}
+use Rattle.choice.specs.Choice.{pick, both}
 use Rattle.refusal.specs.Checks.{need, _then_, checkNumber, orKeep}
 use Rattle.refusal.specs.declared.Check.{Check}
 use Rattle.refusal.specs.declared.Refusal.the-variants.{Invalid, BadRequest, NoSegment, NoFrame, DepthLimit}
@@ -16,7 +17,7 @@ use Rattle.snapshot.specs.Accounts.{entryOf, exists}
 use Rattle.snapshot.specs.Lookup.{accountCheck}
 use Rattle.snapshot.specs.declared.accounts.Account.{Account}
 use Rattle.control.specs.Buffers.{Buffers}
-use Rattle.control.specs.Control.{frames, invocations, depth, setInvocations, recordAt, current, putInvocation, clearInvocation, registersOf, buffersValid}
+use Rattle.control.specs.Control.{frames, invocations, depth, setInvocations, recordAt, current, putInvocation, clearInvocation, setPages, registersOf, buffersValid}
 use Rattle.control.specs.declared.shadow.Region.the-variants.{Stack, Heap}
 use Rattle.frames.specs.Table.{frameEntryOf, freeFrameEntry, usageOf}
 use Rattle.frames.specs.declared.table.FrameEntry.{FrameEntry}
@@ -111,9 +112,9 @@ returnCheck s c p room =
     then need (eqb room registersSize) BadRequest
     then need (ltb 1 (invocations c)) DepthLimit
 
--- "every stack and heap frame whose tag is at or above D−1"
+-- "return frees stack frames only": of these each "whose tag is at or above D−1"
 unfoldable pub leaves : ℕ → FrameEntry → Bool
-leaves d e = both (either (eqb (e .usage) (usageOf Stack)) (eqb (e .usage) (usageOf Heap))) (leb d (e .tag))
+leaves d e = both (eqb (e .usage) (usageOf Stack)) (leb d (e .tag))
 
 -- such a frame freed, any other left
 unfoldable pub freeLeaving : ℕ → List ℕ → ℕ → List ℕ
@@ -124,9 +125,13 @@ unfoldable pub freedBelow : ℕ → List ℕ → ℕ → List ℕ
 freedBelow d c zero = c
 freedBelow d c (suc n) = freeLeaving d (freedBelow d c n) n
 
+-- "The caller's heap size becomes the returning frame's."
+unfoldable pub handOver : List ℕ → List ℕ → List ℕ
+handOver c x = setPages x (invocations c - 1) Heap (current c .heap)
+
 -- "frees .., zeroes shadow frame D and lowers D"
 unfoldable pub returned : List ℕ → List ℕ
-returned c = setInvocations (clearInvocation (freedBelow (depth c) c (frames c)) (invocations c)) (invocations c - 1)
+returned c = setInvocations (clearInvocation (handOver c (freedBelow (depth c) c (frames c))) (invocations c)) (invocations c - 1)
 
 -- a return's number
 unfoldable pub returnNumber : List ℕ → List ℕ → List ℕ → List ℕ → ℕ

@@ -5,16 +5,17 @@ use control::header::frame_count;
 use control::header::invocation_count;
 use control::header::set_invocations;
 use control::shadow::Invocation;
+use control::shadow::Region;
 use control::shadow::clear_invocation;
 use control::shadow::invocation_at;
 use control::shadow::put_invocation;
 use control::shadow::read_registers;
+use control::shadow::set_pages;
 use frames::finding::group_may_hold_regions;
 use frames::search::GROUP;
 use frames::table::entry_at;
 use frames::table::free_frame_entry;
 use frames::table::usage_at;
-use layout::control::HEAP;
 use layout::control::INVOCATIONS;
 use layout::control::REGISTERS;
 use layout::control::STACK;
@@ -91,16 +92,12 @@ fn return_check(s: &[u8], c: &[u8], pool: &[u8], size: usize) -> Check
     Check::Stop(Refusal::Invalid)
 }
 
-// Whether entry i is a stack or heap frame's, with a tag at or above the depth.
+// Whether entry i is a stack frame's, with a tag at or above the depth.
 fn leaves_at(c: &[u8], i: usize, depth: usize) -> bool
     requires { ⌜ entryEnd i ≤ length (now c) ⌝ }
     ensures { λ r. ⌜ r ≡ leaves depth (frameEntryOf (now (c .entry)) i) ⌝ }
 {
-    let usage = usage_at(c, i);
-    if usage == STACK {
-        return depth <= entry_at(c, i).tag as usize;
-    }
-    if usage == HEAP {
+    if usage_at(c, i) == STACK {
         return depth <= entry_at(c, i).tag as usize;
     }
     false
@@ -120,7 +117,7 @@ fn free_within(c: &mut [u8], from: usize, to: usize, depth: usize)
     }
 }
 
-// Frees every stack and heap frame whose tag is at or above the depth, in one pass. A group without a stack or heap frame is passed over.
+// Frees every stack frame whose tag is at or above the depth, in one pass. A group without a stack or heap frame is passed over.
 fn free_leaving(c: &mut [u8], depth: usize)
     requires { ⌜ controlValid (now c) ≡ true ⌝ }
     ensures { λ _. ⌜ now (c .exit) ≡ freedBelow depth (now (c .entry)) (frames (now (c .entry))) ⌝ }
@@ -136,7 +133,7 @@ fn free_leaving(c: &mut [u8], depth: usize)
     free_within(c, i, frames, depth);
 }
 
-// Returns from the current invocation, handing its registers back.
+// Returns from the current invocation, handing its registers back, and its heap over to its caller.
 pub fn return_from(s: &[u8], c: &mut [u8], pool: &[u8], registers: &mut [u8]) -> u8
     ensures { λ r. ⌜ r ≡ returnNumber (now (s .entry)) (now (c .entry)) (now (pool .entry)) (now (registers .entry)) ⌝ }
     ensures { λ _. ⌜ now (c .exit) ≡ returnControl (now (s .entry)) (now (c .entry)) (now (pool .entry)) (now (registers .entry)) ⌝ }
@@ -147,8 +144,10 @@ pub fn return_from(s: &[u8], c: &mut [u8], pool: &[u8], registers: &mut [u8]) ->
         return number(r);
     }
     let live = invocation_count(c);
+    let heap = invocation_at(c, live).heap;
     read_registers(c, live, registers);
     free_leaving(c, live - 1);
+    set_pages(c, live - 1, Region::Heap, heap);
     clear_invocation(c, live);
     set_invocations(c, live - 1);
     DONE

@@ -5,6 +5,7 @@ use mathlib.Core.Bool.{true}
 use native.Mathlib.Omega.{arith}
 use Rattle.control.specs.Control.{invocations, sizeOf}
 use Rattle.control.specs.declared.shadow.Region.{Region}
+use Rattle.control.specs.declared.shadow.Region.the-variants.{Stack}
 use Rattle.frames.specs.Table.{frameEntryOf}
 use Rattle.invoke.specs.Invoke.{roomValid, fresh}
 use Rattle.invoke.specs.declared.begin.Start.{Start}
@@ -33,10 +34,10 @@ module _ (size pool : ℕ) (x : Start) (valid : roomValid size pool ≡ true) (f
               held = λ k l. absurd (omega (arith, none r));
               only = λ i l u. absurd (usage-some r (sym u ∙ fresh-usage i));
             };
-        tagged = λ r.
+        tagged =
             record {
               rise = λ i j some l few. let e : i ≡ j = omega arith in rw e (omega arith);
-              tag = λ k i l. absurd (omega (arith, none r));
+              tag = λ k i l. absurd (omega (arith, none Stack));
             };
         few = λ i l. omega (arith, fresh-usage i);
       }

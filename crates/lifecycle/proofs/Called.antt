@@ -79,6 +79,6 @@ module _ (s c p : List ℕ) (a : Account) (registers : List ℕ) (accepted : cal
   called-right h =
       record {
         held = λ r. same-held (called-same r) (h .held r);
-        tagged = λ r. repeats-tagged (called-repeats r) (called-same r) (h .tagged r);
+        tagged = repeats-tagged (called-repeats Stack) (called-same Stack) (h .tagged);
         few = λ i l. omega (arith, usage-same (entry-stays i), h .few i (rw count-stays at l));
       }

@@ -9,6 +9,7 @@ use native.Mathlib.Omega.{arith}
 use Rattle.layout.specs.Control.{usageCopy}
 use Rattle.control.specs.Control.{frames, pagesOf, controlValid}
 use Rattle.control.specs.declared.shadow.Region.{Region}
+use Rattle.control.specs.declared.shadow.Region.the-variants.{Stack}
 use Rattle.control.specs.declared.shadow.Invocation.{Invocation}
 use Rattle.control.proofs.Facts.{ControlFacts, control-facts}
 use Rattle.frames.specs.Table.{frameEntryOf, putFrameEntry, isFree}
@@ -58,7 +59,7 @@ module _ (c : List ℕ) (f : ℕ) (e : FrameEntry) (valid : controlValid c ≡ t
   copied-right h =
       record {
         held = λ r. same-held (copied-same r) (h .held r);
-        tagged = λ r. repeats-tagged (copied-repeats r) (copied-same r) (h .tagged r);
+        tagged = repeats-tagged (copied-repeats Stack) (copied-same Stack) (h .tagged);
         few = λ i l.
             elim (ℕ-discrete i f) [
               | yes z ↦ rw z (omega (arith, copied-usage))

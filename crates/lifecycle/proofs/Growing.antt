@@ -204,5 +204,5 @@ grown-right c p r n valid pool more most accepted h =
     let v : List ℕ = grownTo c p r n .control in
     let s : Sized c v (sized v r n) r n = sized-is c v r n valid (grown-only r (sizeOf c r) c p (n - sizeOf c r)) most in
     let g : Grows c (sized v r n) r n = grows c p r n valid pool more most accepted s in
-    sized-right s (grows-held s more most g (h .held r)) (grows-tagged s more most g (h .held r) (h .tagged r)) (λ q d i b. grows-other s more most g q d i)
+    sized-right s (grows-held s more most g (h .held r)) (grows-tagged s more most g (h .held r)) (λ q d i b. grows-other s more most g q d i)
     (grows-few s more most g h) h

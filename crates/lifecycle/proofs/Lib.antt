@@ -10,4 +10,5 @@ pub mod Sized
 pub mod Growing
 pub mod Shrinking
 pub mod Resized
+pub mod Left
 pub mod After

@@ -26,7 +26,7 @@ use Rattle.lifecycle.proofs.Tagged.{moved-tagged}
 use Rattle.lifecycle.proofs.Sized.{Sized, sized-is, sized-right, sized-rise, sized-depth}
 
 -- the frame of a page is the one that holds it
-page-found : (c : List ℕ) (r : Region) → RegionHeld c r → (k i : ℕ) → k < sizeOf c r → i < frames c → holdsPage c r k i ≡ true
+pub page-found : (c : List ℕ) (r : Region) → RegionHeld c r → (k i : ℕ) → k < sizeOf c r → i < frames c → holdsPage c r k i ≡ true
     → FoundAt (pageFrame c r k) i
 page-found c r h k i l b q =
     let o : HeldOnce c r k = h .held k l in
@@ -133,5 +133,5 @@ shrunk-right c r n valid less accepted h =
     let leave : allLeave c r n (sizeOf c r - n) ≡ true = need-pass _ _ (need-then _ _ _ accepted .1) in
     let s : Sized c g (sized g r n) r n = sized-is c g r n valid (shrunk-only c r n (sizeOf c r - n)) (omega (arith, h .held r .most)) in
     sized-right s (moved-held (shrinks-moves c r n valid less s (h .held r)) (h .held r))
-    (shrinks-tagged c r n valid less s leave (h .held r) (h .tagged r)) (λ q d i b. shrinks-other c r n valid less s q d i)
+    (shrinks-tagged c r n valid less s leave (h .held r)) (λ q d i b. shrinks-other c r n valid less s q d i)
     (shrinks-few c r n valid less s h) h

@@ -95,13 +95,15 @@ module _ {c g x : List ℕ} {r : Region} {n : ℕ} (s : Sized c g x r n) where
         | no z ↦ s .before q j (omega arith)
       ])
 
-  -- both regions are right where this one is, and the other's entries stay
-  pub sized-right : RegionHeld x r → RegionTagged x r → ((q : Region) → q ≢ r → (i : ℕ) → i < frames c → Untouched c x q i)
+  -- both regions are right where this one's pages are, its tags stay right, and the other's entries stay
+  pub sized-right : RegionHeld x r → (RegionTagged c r → RegionTagged x r) → ((q : Region) → q ≢ r → (i : ℕ) → i < frames c → Untouched c x q i)
       → ((i : ℕ) → i < frames c → frameEntryOf x i .usage ≤ usageOf Heap) → Rights c → Rights x
   sized-right held tagged entry few h =
       record {
         held = by-region r held (λ q d. same-held (other-same q d (entry q d)) (h .held q));
-        tagged = by-region r tagged (λ q d. repeats-tagged (other-repeats q d) (other-same q d (entry q d)) (h .tagged q));
+        tagged =
+            by-region {P = λ q. RegionTagged c q → RegionTagged x q} r tagged
+            (λ q d. repeats-tagged (other-repeats q d) (other-same q d (entry q d))) Stack (h .tagged);
         few = λ i l. few i (rw (s .count) at l);
       }
 

@@ -10,7 +10,7 @@ use Rattle.layout.specs.Page.{pageLimit}
 use Rattle.choice.specs.Search.{lowest, count}
 use Rattle.control.specs.Control.{frames, invocations, sizeIn, sizeOf}
 use Rattle.control.specs.declared.shadow.Region.{Region}
-use Rattle.control.specs.declared.shadow.Region.the-variants.{Heap}
+use Rattle.control.specs.declared.shadow.Region.the-variants.{Stack, Heap}
 use Rattle.frames.specs.Table.{frameEntryOf, usageOf, claims, isFree}
 use Rattle.frames.specs.declared.finding.Claim.the-variants.{Anonymous}
 use Rattle.regions.specs.Resize.{pageAt}
@@ -40,7 +40,8 @@ pub record RegionHeld (c : List ℕ) (r : Region) : Type 0 where
   pub held : (k : ℕ) → k < sizeOf c r → HeldOnce c r k
   pub only : (i : ℕ) → i < frames c → frameEntryOf c i .usage ≡ usageOf r → OfPage c r i
 
--- ---- tags and sizes: what a return needs
+-- ---- tags and sizes of the stack: what a return needs, which "frees stack frames only". Of the heap nothing is said: a deeper invocation leaves
+-- its pages with their tags, and heap sizes of records below the current one are stale until their callee returns
 
 -- the size of a region at depth j, that of record j + 1, is above k
 abbrev pub reaches : List ℕ → Region → ℕ → ℕ → Bool
@@ -61,10 +62,10 @@ pub record RegionTagged (c : List ℕ) (r : Region) : Type 0 where
 
 -- ---- both regions
 
--- both parts of each region, and no entry has a use that is not named
+-- the pages of each region, the tags of the stack, and no entry has a use that is not named
 pub record Rights (c : List ℕ) : Type 0 where
   pub held : (r : Region) → RegionHeld c r
-  pub tagged : (r : Region) → RegionTagged c r
+  pub tagged : RegionTagged c Stack
   pub few : (i : ℕ) → i < frames c → frameEntryOf c i .usage ≤ usageOf Heap
 
 -- ---- how many frames

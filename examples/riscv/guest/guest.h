@@ -1,4 +1,4 @@
-/* What start.S and probe.S give to the guests in C. */
+/* What start.S, calls.S and probe.S give to the guests in C. */
 #ifndef GUEST_H
 #define GUEST_H
 
@@ -9,6 +9,12 @@ int64_t main(void);
 
 /* Asks the host to copy `length` bytes as one span. */
 void service_store_span(uint64_t to, uint64_t from, uint64_t length);
+
+/* Runs a function one invocation deeper; what it returns. */
+uint64_t service_call(uint64_t (*function)(void));
+
+/* Gives the heap so many pages. */
+void service_heap(uint64_t pages);
 
 /* One load or store of 8 bytes, a jump, and a recursion without end. */
 uint64_t probe_load(uint64_t address);

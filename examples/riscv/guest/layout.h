@@ -13,7 +13,11 @@
 #define TRANSACTION ADDRESS(0, 1, 0)
 #define PROGRAM ADDRESS(0, 3, 0)
 #define ACCOUNT_DATA(account) ADDRESS(3, account, 0)
+#define STACK_END (ADDRESS(5, 0, 0) + SEGMENT_BYTES)
 #define HEAP ADDRESS(7, 0, 0)
+#define LIST (HEAP + PAGE_BYTES * HEAP_PAGES) /* the page that the weighing guest's helper grows */
+
+enum { HEAP_PAGES = 1 }; /* that a guest begins with */
 
 enum { PROGRAM_ACCOUNT = 0, SLOT_ACCOUNT = 1, FOREIGN_ACCOUNT = 2, FOREIGN_PROGRAM = 3, ACCOUNTS = 4 };
 
@@ -32,11 +36,21 @@ struct slot {
     uint64_t reserved;
 };
 
+/* A cell of the weighing guest's list. Its transaction is a u64 count and then that many weights, a u64 each. */
+struct cell {
+    uint64_t weight; /* kg */
+    uint64_t sum;    /* of the weights from the first cell to this one */
+    uint64_t next;   /* address of the next cell, or 0 */
+};
+
 enum { SLOT_ACCOUNT_BYTES = 6000, SLOTS = SLOT_ACCOUNT_BYTES / 32, REQUESTS_MAX = 8 };
 
 /* Services of the host: number in a7, arguments in a0 to a2. */
 #define SERVICE_END 0        /* a0: status */
 #define SERVICE_STORE_SPAN 1 /* a0: to, a1: from, a2: length; one span load and one span store */
+#define SERVICE_CALL 2       /* sp is moved to the callee's stack page */
+#define SERVICE_RETURN 3     /* a0: result; every other register is again what it was at the call */
+#define SERVICE_HEAP 4       /* a0: pages */
 
 /* The first byte of the transaction tells the misbehaving guest what to try. */
 enum misbehaviour {

@@ -1,7 +1,7 @@
 //! Why an access was refused.
 
 use super::segment::{extent, name};
-use super::{buffers, callers_page, entry, no_account, no_frame};
+use super::{buffers, entry, no_account, no_frame, shallower_page};
 use crate::text::count;
 use crate::world::World;
 use hekthumar::layout::PAGE;
@@ -86,8 +86,8 @@ fn forbidden(world: World, access: Access) -> Option<String> {
     match segment {
         _ if access.kind == Kind::Fetch => Some(format!("only the program is fetched from; this is {}", name(segment))),
         Segment::Data(account) => not_writable(world, account),
-        Segment::Stack => callers_page(world, Region::Stack, page),
-        Segment::Heap => callers_page(world, Region::Heap, page),
+        Segment::Stack => shallower_page(world, Region::Stack, page),
+        Segment::Heap => shallower_page(world, Region::Heap, page),
         _ => Some(format!("{} is never stored to", name(segment))),
     }
 }

@@ -1,6 +1,6 @@
 //! Why begin, a call, a return or a change of size was refused.
 
-use super::{buffers, callers_page, entry, first, no_account, no_frame};
+use super::{buffers, entry, first, no_account, no_frame, shallower_page};
 use crate::rules::{control, snapshot};
 use crate::text::count;
 use crate::verdict::snapshot_valid;
@@ -45,7 +45,7 @@ pub fn resize(world: World, region: Region, pages: usize, refusal: Refusal) -> O
         Refusal::Invalid => buffers(world).or_else(|| leaving.find_map(|page| no_frame(world, region, page))),
         Refusal::RegionTooLarge => Some(format!("the {} has at most {MAX_REGION} pages", region_name(region))),
         Refusal::OutOfFrames => Some(too_few(world, pages.saturating_sub(world.pages(region)))),
-        Refusal::NotPermitted => leaving.find_map(|page| callers_page(world, region, page)),
+        Refusal::NotPermitted => leaving.find_map(|page| shallower_page(world, region, page)),
         _ => None,
     }
 }

@@ -49,12 +49,13 @@ fn no_frame(world: World, region: Region, page: usize) -> Option<String> {
     missing.then(|| format!("no frame holds page {page} of the {}", region_name(region)))
 }
 
-/// That a page of the stack or the heap is a caller's, if it is.
-fn callers_page(world: World, region: Region, page: usize) -> Option<String> {
+/// That a page of the stack or the heap was grown by a shallower program, if it was. That need not be a caller: heap pages outlive the
+/// return.
+fn shallower_page(world: World, region: Region, page: usize) -> Option<String> {
     let depth = world.invocations().saturating_sub(1);
     let (frame, entry) = world.frame_of(region, page)?;
     (usize::from(entry.tag) < depth).then(|| {
         let (region, tag) = (region_name(region), entry.tag);
-        format!("page {page} of the {region} is a caller's: frame {frame} has the tag {tag}, and the current depth is {depth}")
+        format!("page {page} of the {region} is a shallower program's: frame {frame} has the tag {tag}, and the current depth is {depth}")
     })
 }

@@ -3,7 +3,7 @@
 use super::case::Case;
 use crate::common::folder::Content;
 use crate::data::bytes::patched;
-use crate::data::control::{alone, booked, booked_pool, entry, UNUSED};
+use crate::data::control::{alone, booked, booked_pool, control, entry, record, UNUSED};
 use crate::data::damaged;
 use crate::data::layout::*;
 use crate::data::list::{booked_slots, booking, list};
@@ -20,6 +20,7 @@ fn statements() -> Vec<Case> {
     let no_frames = "frames 0\nbegin 0\nbegin 0 0\nstore 0x030001000000 1 1\nheap 1\nmap\n";
     vec![
         every_statement(),
+        heap_left(),
         Case::script("run-no-frames", sound_mill(), no_frames),
         Case::script("run-largest", sound_mill(), include_str!("../inputs/largest.txt")),
         Case::script("run-frames", sound_mill(), "frames 257\nmap\n"),
@@ -32,11 +33,25 @@ fn every_statement() -> Case {
     let mut page = booked_slots()[PAGE..].to_vec();
     page[8..10].copy_from_slice(&[0x22, 0x33]);
     let begun = [entry(STACK, 0, 0, 4_095), entry(COPY, 0, 1, 1)];
-    let grown = [entry(STACK, 0, 0, 4_094), entry(HEAP, 0, 0, 0), entry(HEAP, 0, 0, 1)];
-    let frames = [begun.as_slice(), &grown, &[UNUSED]].concat();
+    let grown = [entry(STACK, 0, 0, 4_094), entry(HEAP, 0, 0, 0), entry(HEAP, 0, 0, 1), entry(HEAP, 1, 0, 2)];
+    let frames = [begun.as_slice(), &grown].concat();
     Case::script("script", mill(), include_str!("../inputs/script.txt"))
-        .leaves("kept-control", alone(2, 2, &frames))
+        .leaves("kept-control", alone(2, 3, &frames))
         .leaves("kept-list", list(&[(1, 1, &page)]))
+}
+
+/// Heap pages that a callee leaves, and one that it frees. What is kept before and after a return is shown: a caller's size waits for the
+/// return, and nobody complains of it, nor of a tag above the depth.
+fn heap_left() -> Case {
+    let stack = entry(STACK, 0, 0, 4_095);
+    let freed = [stack, UNUSED, entry(HEAP, 1, 0, 0), UNUSED, UNUSED, UNUSED];
+    let left = [stack, entry(HEAP, 0, 0, 1), entry(HEAP, 1, 0, 0), entry(HEAP, 2, 0, 2), UNUSED, UNUSED];
+    let called = |pages, frames| control(&[record(0, 1, 2, &[]), record(1, 1, pages, &[])], frames);
+    Case::script("run-heap", sound_mill(), include_str!("../inputs/heap.txt"))
+        .then("show freed-control left-control kept-control")
+        .leaves("freed-control", called(1, &freed))
+        .leaves("left-control", called(3, &left))
+        .leaves("kept-control", alone(1, 3, &left))
 }
 
 /// What is kept in files, and gone on from.

@@ -2,8 +2,8 @@
 
 use crate::plain_headers::{account, number, snapshot_valid, vm, PAGE, RECORD, RECORDS, TABLE};
 use crate::plain_resize::take;
-use crate::plain_search::{any_region, Entry, GROUP};
-use crate::plain_words::{put_u32, u32_at};
+use crate::plain_search::{any_stack, Entry, GROUP};
+use crate::plain_words::{put_u16, put_u32, u32_at};
 
 #[inline(always)]
 fn program_valid(s: &[u8], program: u16) -> Result<(), u8> {
@@ -71,9 +71,9 @@ pub fn call(s: &[u8], c: &mut [u8], p: &[u8], program: u16, registers: &[u8]) ->
 }
 
 #[inline(always)]
-fn free_leaving(entries: &mut [Entry], depth: usize) {
+fn free_stack(entries: &mut [Entry], depth: usize) {
     for e in entries {
-        if e[0].wrapping_sub(2) < 2 && e[1] as usize >= depth {
+        if e[0] == 2 && e[1] as usize >= depth {
             *e = [0; 8];
         }
     }
@@ -83,22 +83,23 @@ fn free_leaving(entries: &mut [Entry], depth: usize) {
 fn try_return(s: &[u8], c: &mut [u8], p: &[u8], registers: &mut [u8]) -> Result<(), u8> {
     let v = vm(s, c, p)?;
     let registers: &mut [u8; 256] = registers.try_into().map_err(|_| 2)?;
-    let (depth, at) = (v.depth(), v.record_at());
+    let (depth, at, heap) = (v.depth(), v.record_at(), v.pages(3));
     if depth == 0 {
         return Err(9);
     }
     let (head, table) = c.split_first_chunk_mut::<TABLE>().ok_or(1)?;
     put_u32(head, 4, depth as u32);
+    put_u16(head, at - RECORD + 4, heap as u16);
     let record = &mut head[at..][..RECORD];
     registers.copy_from_slice(&record[8..]);
     record.fill(0);
     let (groups, rest) = table.as_chunks_mut().0.as_chunks_mut::<GROUP>();
     for group in groups {
-        if any_region(group) {
-            free_leaving(group, depth);
+        if any_stack(group) {
+            free_stack(group, depth);
         }
     }
-    free_leaving(rest, depth);
+    free_stack(rest, depth);
     Ok(())
 }
 

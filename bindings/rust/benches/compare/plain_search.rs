@@ -100,22 +100,22 @@ fn far_copy_frame(c: &[u8], key: u32) -> Option<usize> {
     Some(from + near.or_else(|| lowest_in_groups(entries, mask, wanted))?)
 }
 
-/// Whether an entry of the group has a use that is wanted under a mask of one byte.
+/// Whether an entry of the group has a use.
 #[inline(always)]
-fn any_use(group: &[Entry; GROUP], mask: u32, wanted: u32) -> bool {
-    group.iter().fold(0, |any, e| any | ((word(e) as u32 & mask) ^ wanted).wrapping_sub(1)) >> 31 != 0
+fn any_use(group: &[Entry; GROUP], wanted: u32) -> bool {
+    group.iter().fold(0, |any, e| any | ((word(e) as u32 & 0xFF) ^ wanted).wrapping_sub(1)) >> 31 != 0
 }
 
 /// Whether an entry of the group is a copy.
 #[inline(always)]
 pub fn any_copy(group: &[Entry; GROUP]) -> bool {
-    any_use(group, 0xFF, 1)
+    any_use(group, 1)
 }
 
-/// Whether an entry of the group is a stack's or a heap's, which differ in the lowest bit.
+/// Whether an entry of the group is a stack page's.
 #[inline(always)]
-pub fn any_region(group: &[Entry; GROUP]) -> bool {
-    any_use(group, 0xFE, 2)
+pub fn any_stack(group: &[Entry; GROUP]) -> bool {
+    any_use(group, 2)
 }
 
 /// Whether at least so many frames are free; no more are counted than it takes.

@@ -4,9 +4,7 @@
 use crate::bytes::*;
 use crate::calls::WRONG_STACK_PAGES;
 use crate::interface::{Bytes, Call, World};
-use crate::library;
-use crate::model;
-use crate::trials::{self, expect};
+use crate::trials::{self, expect, expect_buffers};
 
 /// The only account that exists.
 const PROGRAM: u16 = 5;
@@ -22,15 +20,6 @@ fn world(frames: usize) -> World {
     let mut world = trials::world(0, 6000);
     put_u16(&mut world.snapshot, SNAPSHOT_HEADER + ACCOUNT_ENTRY * usize::from(INVALID), 4);
     World { control: vec![0xCC; TABLE_AT + FRAME_ENTRY * frames], pool: vec![0xAA; PAGE * frames], ..world }
-}
-
-/// Gives the call to both, each with its own copy of the buffers, which must then be those expected.
-fn expect_buffers(before: &World, call: Call, number: u8, after: &World) {
-    let (mut by_library, mut by_model) = (before.clone(), before.clone());
-    assert_eq!(library::run(&mut by_library, &mut call.clone()).number(), number, "library: {call:?}");
-    assert_eq!(model::run(&mut by_model, &mut call.clone(), None).0.number(), number, "model: {call:?}");
-    assert!(by_library == *after, "library's buffers: {call:?}");
-    assert!(by_model == *after, "model's buffers: {call:?}");
 }
 
 fn expect_refused(world: &World, program: u16, pages: usize, number: u8) {

@@ -7,29 +7,50 @@ use crate::interface::{Bytes, Call, World, KINDS, NAMES};
 use crate::lists;
 use crate::model::snapshot::{Entry, Header};
 use crate::random::Random;
-use crate::world::LENGTHS;
+use crate::world::{Size, LENGTHS};
 
-/// How often each kind of call comes, in the order of `NAMES`.
-pub struct Weights([usize; KINDS]);
+/// What a history is rich in.
+pub struct Weights {
+    /// How often each kind of call comes, in the order of `NAMES`.
+    kinds: [usize; KINDS],
+    /// How often a store goes to each row of the table of segments.
+    stores: [usize; ROWS],
+    small_resizes: bool,
+}
 
 impl Weights {
-    /// Each history favours one kind, so that some go deep, some grow, some fill the pool.
-    pub fn new(random: &Random) -> Weights {
-        let mut weights = [1, 1, 1, 1, 14, 12, 5, 16, 8, 10, 6, 4, 14, 4, 5, 6];
+    pub fn new(random: &Random, size: Size) -> Weights {
+        if size == Size::Nested {
+            return Weights::nested();
+        }
+        // Each history favours one kind, so that some go deep, some grow, some fill the pool.
+        let mut kinds = KIND_WEIGHTS;
         let favoured = random.below(KINDS);
         // A begin undoes all that came before it, so it stays rare.
-        weights[favoured] *= if NAMES[favoured].starts_with("begin") { 3 } else { 5 };
-        Weights(weights)
+        kinds[favoured] *= if NAMES[favoured].starts_with("begin") { 3 } else { 5 };
+        Weights { kinds, stores: STORE_ROWS, small_resizes: false }
+    }
+
+    /// Calls, returns and resizes outweigh the rest, so that the heap gets pages at several depths, which outlive their invocations.
+    fn nested() -> Weights {
+        let mut kinds = KIND_WEIGHTS;
+        for (weight, _) in kinds.iter_mut().zip(NAMES).filter(|(_, name)| ["call", "return", "resize"].contains(name)) {
+            *weight *= 15;
+        }
+        Weights { kinds, stores: HEAP_ROWS, small_resizes: true }
     }
 }
 
+/// In the order of `NAMES`.
+const KIND_WEIGHTS: [usize; KINDS] = [1, 1, 1, 1, 14, 12, 5, 16, 8, 10, 6, 4, 14, 4, 5, 6];
+
 pub fn generate(random: &Random, world: &World, weights: &Weights) -> Call {
-    match NAMES[random.weighted(&weights.0)] {
+    match NAMES[random.weighted(&weights.kinds)] {
         "join" => Call::Join { segment: random.next() as u8, index: random.next() as u16, offset: wide_offset(random) },
         "split" => Call::Split { address: random.next() >> random.choose(&[0, 15, 16, 17, 24]) },
         "begin" => Call::Begin { program: program(random, world) },
         "begin_pages" => Call::BeginPages { program: program(random, world), pages: stack_pages(random) },
-        "translate" => translate(random, world),
+        "translate" => translate(random, world, &weights.stores),
         "load" => {
             let size = size(random);
             Call::Load { address: address(random, world, size, &ANY_ROW), size }
@@ -41,19 +62,20 @@ pub fn generate(random: &Random, world: &World, weights: &Weights) -> Call {
         "store" => {
             let (size, value) = (size(random), random.next());
             let value = random.choose(&[value, value, value, 0, u64::MAX]);
-            Call::Store { address: address(random, world, size, &STORE_ROWS), size, value }
+            Call::Store { address: address(random, world, size, &weights.stores), size, value }
         }
         "load_span" => {
             let (address, length) = span(random, world, &ANY_ROW);
             Call::LoadSpan { address, out: Bytes(random.bytes(length)) }
         }
         "store_span" => {
-            let (address, length) = span(random, world, &STORE_ROWS);
+            let (address, length) = span(random, world, &weights.stores);
             let bytes = if random.chance(30) { vec![0; length] } else { random.bytes(length) };
             Call::StoreSpan { address, bytes: Bytes(bytes) }
         }
         "call" => Call::Invoke { program: program(random, world), registers: registers(random) },
         "return" => Call::Return { registers: registers(random) },
+        "resize" if weights.small_resizes && random.chance(80) => small_resize(random, world),
         "resize" => resize(random, world),
         "change_list" => change_list(random, world),
         "apply" => apply(random, world),
@@ -80,7 +102,8 @@ fn wide_offset(random: &Random) -> u32 {
 
 fn program(random: &Random, world: &World) -> u16 {
     let any = random.below(world.accounts().max(1));
-    random.choose(&[0, 0, 1, 1, any, any, any, any, any, random.choose(&[world.accounts(), 0x100, 0xFFFF])]) as u16
+    let own = world.program();
+    random.choose(&[0, 1, own, own, any, any, any, any, any, random.choose(&[world.accounts(), 0x100, 0xFFFF])]) as u16
 }
 
 /// Numbers of pages that a begin refuses. The low bits of most are those of 0 or 1.
@@ -119,15 +142,15 @@ fn span(random: &Random, world: &World, rows: &[usize; ROWS]) -> (u64, usize) {
     (address - offset as u64, length)
 }
 
-fn translate(random: &Random, world: &World) -> Call {
+fn translate(random: &Random, world: &World, stores: &[usize; ROWS]) -> Call {
     let kind = random.choose(&[0, 1, 1, 2, 3, 4, 4, random.choose(&[5, 6, 255, 1])]);
-    let rows = [ANY_ROW, STORE_ROWS, FETCH_ROWS, ANY_ROW, STORE_ROWS, ANY_ROW][usize::from(kind).min(5)];
+    let rows = [&ANY_ROW, stores, &FETCH_ROWS, &ANY_ROW, stores, &ANY_ROW][usize::from(kind).min(5)];
     if kind == 3 || kind == 4 {
-        let (address, length) = span(random, world, &rows);
+        let (address, length) = span(random, world, rows);
         return Call::Translate { kind, address, length };
     }
     let length = size(random);
-    Call::Translate { kind, address: address(random, world, length, &rows), length }
+    Call::Translate { kind, address: address(random, world, length, rows), length }
 }
 
 fn joined(segment: u8, index: usize, offset: usize) -> u64 {
@@ -152,6 +175,8 @@ fn near(random: &Random, present: Range<usize>, size: usize) -> usize {
 const ROWS: usize = 9;
 const ANY_ROW: [usize; ROWS] = [46, 13, 13, 4, 4, 4, 4, 7, 4];
 const STORE_ROWS: [usize; ROWS] = [60, 15, 15, 1, 1, 1, 1, 1, 1];
+/// For stores to the heap, mostly.
+const HEAP_ROWS: [usize; ROWS] = [16, 15, 60, 1, 1, 1, 1, 1, 1];
 const FETCH_ROWS: [usize; ROWS] = [10, 4, 4, 2, 2, 60, 2, 3, 3];
 
 /// An address in any row of the table, in no row, or with upper bits.
@@ -209,6 +234,16 @@ fn resize(random: &Random, world: &World) -> Call {
         13 => 0,
         _ => few,
     };
+    Call::Resize { region, pages }
+}
+
+/// Growth by one page, so that frames last for several depths, and shrinks by few pages, to the caller's size or to one below it.
+fn small_resize(random: &Random, world: &World) -> Call {
+    let region = random.choose(&[STACK, HEAP, HEAP, HEAP]);
+    let size = world.region_size(region);
+    let callers = world.region_size_in(world.live() - 1, region);
+    let fewer = size.saturating_sub(1 + random.below(6));
+    let pages = random.choose(&[size + 1, size + 1, size + 1, fewer, fewer, callers, callers.saturating_sub(1)]);
     Call::Resize { region, pages }
 }
 

@@ -6,6 +6,7 @@ use crate::absences::Absences;
 use crate::begins::Begins;
 use crate::interface::{Answer, Call, KINDS, NAMES};
 use crate::model::Why;
+use crate::returns::Returns;
 
 pub const NUMBERS: usize = 14;
 
@@ -54,6 +55,7 @@ pub struct Coverage {
     places: [u64; 6],
     absences: Absences,
     pub begins: Begins,
+    pub returns: Returns,
     pub histories: u64,
     pub calls: u64,
 }
@@ -91,6 +93,7 @@ impl Coverage {
         faults.extend((0..6).filter(unseen).map(|place| format!("translate never answered place {place}")));
         faults.extend(self.absences.faults());
         faults.extend(self.begins.faults());
+        faults.extend(self.returns.faults());
         faults
     }
 
@@ -110,5 +113,6 @@ impl Coverage {
         }
         self.absences.print();
         self.begins.print();
+        self.returns.print();
     }
 }

@@ -42,7 +42,7 @@ pub fn passing(random: &Random, world: &mut World) {
     match random.below(9) {
         0 => header_word(random, &mut world.control, 4, &[0, 1, 16, 17, TABLE_AT as u32, 1025]),
         1 => header_word(random, &mut world.snapshot, 8, &[0, 64, 65, 513, 65_537, 0x8000_0001]),
-        2 => bad_record(random, world),
+        2 => bad_record(random, world, world.record_at()),
         3 => {
             let buffer = random.below(3);
             let buffer = [&mut world.snapshot, &mut world.control, &mut world.pool].into_iter().nth(buffer).expect("one of three");
@@ -55,9 +55,11 @@ pub fn passing(random: &Random, world: &mut World) {
             spoil_entry(random, &mut world.snapshot, account);
         }
         7 => {
-            // The record below frame D, of which nothing is asked.
+            // The caller's record, of which nothing is asked.
             let at = world.record_at() - RECORD;
-            if at + RECORD <= world.control.len() {
+            if random.chance(50) {
+                bad_record(random, world, at);
+            } else if at + RECORD <= world.control.len() {
                 random.fill(&mut world.control[at..at + RECORD]);
             }
         }
@@ -114,8 +116,9 @@ fn record(random: &Random, world: &mut World) {
     put_u16(&mut world.control, at + 6, random.choose(&[0, 0xABCD]));
 }
 
-fn bad_record(random: &Random, world: &mut World) {
-    let (at, accounts) = (world.record_at(), world.accounts() as u16);
+/// One field of the record at this place, mostly made wrong.
+fn bad_record(random: &Random, world: &mut World, at: usize) {
+    let accounts = world.accounts() as u16;
     if at + 6 > world.control.len() {
         return;
     }

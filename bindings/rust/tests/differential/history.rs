@@ -8,6 +8,7 @@ use crate::library;
 use crate::model::{self, Bug};
 use crate::random::Random;
 use crate::replay::{Replay, Slip};
+use crate::returns;
 use crate::world::{self, Size};
 
 /// Which history, and which planted mistake.
@@ -23,12 +24,14 @@ pub struct Plan {
 }
 
 impl Plan {
-    /// History `number` of a seed: every second one is damaged, and few start from a wide world or one with many frames.
+    /// History `number` of a seed: every second one is damaged, every fourth is nested, and few start from a wide world or one with many
+    /// frames.
     pub fn new(seed: u64, number: u64) -> Plan {
         let size = match number % 64 {
             14 | 15 => Size::SomeFrames,
             30 | 31 => Size::Wide,
             63 => Size::TooWide,
+            number if number % 8 / 2 == 2 => Size::Nested,
             _ => Size::Small,
         };
         Plan { seed, number, size, damaged: number % 2 == 1, bug: None, slip: None }
@@ -57,14 +60,16 @@ pub fn run(plan: Plan, coverage: &mut Coverage) -> Result<(), String> {
 
 impl Run<'_> {
     fn whole(&mut self) -> Result<(), String> {
-        let weights = Weights::new(&self.random);
+        let weights = Weights::new(&self.random, self.plan.size);
         // Before the first begin the control block holds anything.
         for _ in 0..self.random.choose(&[0, 0, 1, 6]) {
             let call = calls::generate(&self.random, &self.library, &weights);
             self.step(call)?;
         }
         self.step(calls::good_begin(&self.random, &self.library))?;
-        for _ in 0..40 + self.random.below(60) {
+        // It takes many calls until pages of several depths lie in the heap in an unusual order.
+        let fewest = if self.plan.size == Size::Nested { 140 } else { 40 };
+        for _ in 0..fewest + self.random.below(60) {
             if self.plan.damaged && self.random.chance(35) {
                 self.damaged_step(&weights)?;
                 continue;
@@ -96,6 +101,7 @@ impl Run<'_> {
     fn step(&mut self, call: Call) -> Result<(), String> {
         let (mut by_library, mut by_model) = (call.clone(), call.clone());
         let due = model::begin_refusals(&mut self.model, &call);
+        let case = returns::case(&call, &self.library, !self.is_replayed());
         let given = library::run(&mut self.library, &mut by_library);
         let (expected, why) = model::run(&mut self.model, &mut by_model, self.plan.bug);
         let difference = buffers(&self.library, &by_library).first_difference(buffers(&self.model, &by_model));
@@ -106,6 +112,7 @@ impl Run<'_> {
         }
         self.coverage.record(&call, &given, why);
         self.coverage.begins.record(&call, &self.library, &due);
+        self.coverage.returns.record(case, &given, why);
         let replayed = self.replayed(&by_library, &given);
         self.calls += 1;
         replayed.map_err(|text| self.place(&format!("{}\n{text}", call.describe())))
@@ -115,6 +122,11 @@ impl Run<'_> {
         let Some(replay) = &mut self.replay else { return Ok(()) };
         replay.observe(call, answer)?;
         replay.check_frames(&self.library)
+    }
+
+    /// No byte was written but by calls from an accepted begin on.
+    fn is_replayed(&self) -> bool {
+        self.replay.as_ref().is_some_and(Replay::has_begun)
     }
 
     fn place(&self, text: &str) -> String {

@@ -22,6 +22,8 @@ mod lists;
 mod model;
 mod random;
 mod replay;
+mod return_trials;
+mod returns;
 mod tables;
 mod trials;
 mod world;

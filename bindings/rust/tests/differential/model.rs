@@ -7,6 +7,7 @@ mod control;
 mod invocation;
 mod list;
 mod presence;
+mod return_;
 pub mod snapshot;
 mod why;
 

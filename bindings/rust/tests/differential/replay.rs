@@ -44,6 +44,10 @@ impl Replay {
         Replay { copies, touched: BTreeSet::new(), begun: false, slip }
     }
 
+    pub fn has_begun(&self) -> bool {
+        self.begun
+    }
+
     /// Takes in a call that the library has answered, and checks the bytes that a load gave.
     pub fn observe(&mut self, call: &Call, answer: &Answer) -> Result<(), String> {
         // "every refused one, leaves all as it is"; before the first begin frames may hold anything, and nothing is claimed.

@@ -79,6 +79,8 @@ fn taken(order: impl Iterator<Item = usize>) {
     both.resize(2, 18);
     both.resize(3, 14);
     both.give(Call::Return { registers: Bytes(vec![0; 256]) });
+    // The last heap page that the callee left has its frame behind all copies.
+    both.give(Call::Store { address: 0x0700_0000_D000, size: 8, value: 9 });
     for pages in [3, 1, 0] {
         both.resize(2, pages);
         both.resize(3, pages);
@@ -103,6 +105,28 @@ fn pages_taken_downwards() {
 #[test]
 fn pages_taken_without_order() {
     taken((0..PAGES).map(|i| i * 37 % PAGES));
+}
+
+/// Stack and heap pages of several depths alternate in the table: in most groups some entries leave at a return and some stay.
+#[test]
+fn returns_over_both_regions() {
+    let world = world();
+    let mut both = Both(world.clone(), world);
+    both.give(Call::BeginPages { program: 0, pages: 0 });
+    for pages in 1..=FRAMES / 2 {
+        both.resize(STACK, pages);
+        both.resize(HEAP, pages);
+        if pages % 10 == 0 {
+            both.give(Call::Invoke { program: 0, registers: Bytes(vec![pages as u8; 256]) });
+        }
+    }
+    for live in (1..=FRAMES / 20).rev() {
+        both.give(Call::Return { registers: Bytes(vec![0; 256]) });
+        assert_eq!((both.0.region_size(STACK), both.0.region_size(HEAP)), (10 * live, FRAMES / 2));
+        assert_eq!((both.0.frames_used_as(STACK), both.0.frames_used_as(HEAP)), (10 * live, FRAMES / 2));
+    }
+    both.resize(HEAP, 0);
+    both.resize(STACK, 0);
 }
 
 /// A page that every entry names with another use: the key is there in each group, the copy in none but the last.

@@ -39,15 +39,26 @@ fn original(place: usize) -> u8 {
 pub fn expect_with(world: &mut World, call: Call, number: u8, distance: u64) -> Call {
     let told = |answer: Answer| (answer.number(), answer.distance().unwrap_or(0));
     let (mut by_library, mut by_model) = (call.clone(), call);
-    let (answer, _) = model::run(&mut world.clone(), &mut by_model, None);
+    let mut models = world.clone();
+    let (answer, _) = model::run(&mut models, &mut by_model, None);
     assert_eq!(told(answer), (number, distance), "model: {}", by_model.describe());
     let answer = library::run(world, &mut by_library);
     assert_eq!(told(answer), (number, distance), "library: {}", by_library.describe());
+    assert!(*world == models && by_library == by_model, "buffers: {}", by_library.describe());
     by_library
 }
 
 pub fn expect(world: &mut World, call: Call, number: u8) -> Call {
     expect_with(world, call, number, 0)
+}
+
+/// Gives the call to both, each with its own copy of the buffers, which must then be those expected, and hands back the call with its lent
+/// buffers.
+pub fn expect_buffers(before: &World, call: Call, number: u8, after: &World) -> Call {
+    let mut world = before.clone();
+    let call = expect(&mut world, call, number);
+    assert!(world == *after, "buffers: {}", call.describe());
+    call
 }
 
 /// 01's begin, which 02 keeps as the one with no pages.

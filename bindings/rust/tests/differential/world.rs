@@ -10,6 +10,8 @@ use crate::random::Random;
 pub enum Size {
     /// Few accounts, contexts and frames.
     Small,
+    /// Frames enough for pages of several depths, and a program to call.
+    Nested,
     /// Sometimes 64 accounts, 512 contexts, a transaction of 65,536 bytes.
     Wide,
     /// One more than the header may say of accounts, contexts or transaction bytes, all else agreeing.
@@ -38,6 +40,7 @@ pub fn generate(random: &Random, size: Size) -> World {
     let frames = match size {
         Size::ManyFrames => MAX_FRAMES,
         Size::TooManyFrames => MAX_FRAMES + 1,
+        Size::Nested => random.choose(&[8, 10, 12, 14]),
         Size::SomeFrames => random.choose(&[16, 17, 24, 31, 32, 33, 40, 63, 64]),
         _ => random.choose(&[0, 1, 2, 3, 4, 5, 6, 8, 10, 12]),
     };
@@ -187,7 +190,18 @@ impl World {
     }
 
     pub fn region_size(&self, region: u8) -> usize {
-        peek(&self.control, self.record_at() + if region == STACK { 2 } else { 4 }, 2)
+        self.region_size_in(self.live(), region)
+    }
+
+    /// The pages of a region by this record.
+    pub fn region_size_in(&self, record: usize, region: u8) -> usize {
+        peek(&self.control, RECORDS_AT + RECORD * record + if region == STACK { 2 } else { 4 }, 2)
+    }
+
+    /// The tag of the lowest frame that claims a page of a region.
+    pub fn tag_of(&self, region: u8, page: usize) -> Option<usize> {
+        let mut entries = self.control.get(TABLE_AT..)?.chunks_exact(FRAME_ENTRY);
+        entries.find(|entry| entry[0] == region && usize::from(u16_at(entry, 4)) == page).map(|entry| entry[1].into())
     }
 
     pub fn frames(&self) -> usize {

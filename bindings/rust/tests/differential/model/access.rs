@@ -233,9 +233,13 @@ impl Vm<'_> {
     fn spot_in_region(&self, access: &Access, region: u8) -> Result<Spot, Why> {
         let frame = self.claim_of_region(region, access.page()).ok_or(Why::Unclaimed)?;
         let tag = usize::from(self.frame_entry(frame).tag);
-        // "tag at or above the depth"
-        let least = if self.has(Bug::TagMustExceedDepth) { self.depth() + 1 } else { self.depth() };
-        if access.kind.is_store() && tag < least {
+        // "tag at or above the depth": so "a shallower program may then store to what a deeper one left"
+        let storable = match self.bug {
+            Some(Bug::TagMustExceedDepth) => tag > self.depth(),
+            Some(Bug::TagMustEqualDepth) => tag == self.depth(),
+            _ => tag >= self.depth(),
+        };
+        if access.kind.is_store() && !storable {
             return Err(Why::Tag);
         }
         Ok(Spot::Pool(PAGE * frame + access.offset % PAGE))

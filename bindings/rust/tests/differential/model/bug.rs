@@ -116,22 +116,61 @@ bugs! {
     RefusedBeginClearsControl,
     RefusedBeginZeroesFrame,
 
-    // Invocations and regions.
-    TagMustExceedDepth,
+    // Calls.
     CallDropsSizes,
     CallKeepsPadding,
     CallAtFifteenRefused,
-    ReturnKeepsHeap,
+
+    // Returns: what they ask, and the registers and the record that leave.
     ReturnKeepsRecord,
-    ReturnFreesDeeperOnly,
-    ReturnFreesWithinSizes,
     ReturnAsksCallersRecord,
     ReturnGivesCallersRegisters,
+
+    // Returns: frames.
+    /// Every stack and heap frame by its tag; the caller keeps its own heap size.
+    ReturnFreesHeap,
+    /// As above, but the heap size is handed over.
+    HeapFreedSizeHandedOver,
+    /// Heap frames whose pages are not below the size handed over.
+    ReturnFreesHeapPastSize,
+    ReturnLowersHeapTags,
+    ReturnKeepsStack,
+    /// Whatever its tag.
+    ReturnFreesWholeStack,
+    /// A tag of D-1 is not enough.
+    ReturnFreesDeeperOnly,
+    ReturnFreesWithinSizes,
+    ReturnClearsPool,
+
+    // Returns: the caller's record.
+    HeapSizeNotHandedOver,
+    /// To record D-2.
+    HeapSizeToCallersCaller,
+    HeapSizeToFirstRecord,
+    HeapSizeToEveryRecord,
+    HeapSizeNeverFalls,
+    HeapSizeNeverRises,
+    /// The low 8 bits alone.
+    HeapSizeAsByte,
+    /// The table's heap frames are counted.
+    HeapSizeRecounted,
+    InvalidCallerGetsNoSize,
+    StackSizeHandedOver,
+    PaddingHandedOver,
+    ProgramHandedOver,
+
+    // Regions.
+    TagMustExceedDepth,
+    TagMustEqualDepth,
     GrowthTakesHighestFrame,
     GrowthOrderReversed,
     GrowthTagZero,
     GrowthReusesClaim,
     ShrinkTagBeforeClaim,
+    ShrinkAsksNearestTag,
+    ShrinkAsksOutermostTag,
+    /// Pages with a tag above the depth stay, too.
+    ShrinkFreesOwnOnly,
     ShrinkFreesNearest,
     ShrinkFreesAllClaims,
     ShrinkClearsPool,

@@ -1,4 +1,4 @@
-//! Call, return and resize.
+//! Call and resize.
 
 use super::bug::Bug;
 use super::control::FrameEntry;
@@ -40,45 +40,6 @@ impl Vm<'_> {
         put_u16(control, at + 6, padding);
         control[at + 8..at + RECORD].copy_from_slice(registers);
         Ok(())
-    }
-
-    pub fn return_(&mut self, registers: &mut [u8]) -> Result<(), Why> {
-        // "1, 2, 9"
-        let header = self.valid()?;
-        if registers.len() != REGISTERS {
-            return Err(Why::Length);
-        }
-        let live = self.live();
-        if live == 1 {
-            return Err(Why::Depth);
-        }
-        let callers_program = u16_at(&self.world.control, self.record_at(live - 1));
-        if self.has(Bug::ReturnAsksCallersRecord) && usize::from(callers_program) >= header.accounts {
-            return Err(Why::Record);
-        }
-        // "It hands back frame D's registers"
-        let source = self.record_at(if self.has(Bug::ReturnGivesCallersRegisters) { live - 1 } else { live });
-        registers.copy_from_slice(&self.world.control[source + 8..source + RECORD]);
-        for frame in (0..self.frames()).filter(|&frame| self.returns_frame(frame)).collect::<Vec<usize>>() {
-            self.free_frame(frame);
-        }
-        // "zeroes shadow frame D and lowers D"
-        let at = self.record_at(live);
-        if !self.has(Bug::ReturnKeepsRecord) {
-            self.world.control[at..at + RECORD].fill(0);
-        }
-        put_u32(&mut self.world.control, 4, live as u32 - 1);
-        Ok(())
-    }
-
-    /// "frees every stack and heap frame whose tag is at or above D-1"
-    fn returns_frame(&self, frame: usize) -> bool {
-        let entry = self.frame_entry(frame);
-        let region = entry.usage == STACK || (entry.usage == HEAP && !self.has(Bug::ReturnKeepsHeap));
-        let least = if self.has(Bug::ReturnFreesDeeperOnly) { self.live() } else { self.live() - 1 };
-        let asked =
-            !self.has(Bug::ReturnFreesWithinSizes) || from_base(entry.usage, usize::from(entry.page)) < self.region_size(entry.usage);
-        region && usize::from(entry.tag) >= least && asked
     }
 
     pub fn resize(&mut self, region: u8, pages: usize) -> Result<(), Why> {
@@ -138,7 +99,7 @@ impl Vm<'_> {
         };
         let claims: Vec<Option<usize>> = departing.map(|d| self.claim_of_region(region, from_base(region, d) as u16)).collect();
         let unclaimed = claims.contains(&None);
-        let kept = claims.iter().flatten().any(|&frame| usize::from(self.frame_entry(frame).tag) < self.depth());
+        let kept = self.keeps(&claims);
         if kept && self.has(Bug::ShrinkTagBeforeClaim) {
             return Err(Why::Tag);
         }
@@ -152,6 +113,18 @@ impl Vm<'_> {
             self.release(region, frame);
         }
         Ok(())
+    }
+
+    /// "free it where no page further out has a tag below its depth": every departing page is asked for its tag. They come nearest first.
+    fn keeps(&self, claims: &[Option<usize>]) -> bool {
+        let asked = match self.bug {
+            Some(Bug::ShrinkAsksNearestTag) => &claims[..claims.len().min(1)],
+            Some(Bug::ShrinkAsksOutermostTag) => &claims[claims.len().saturating_sub(1)..],
+            _ => claims,
+        };
+        let mut tags = asked.iter().flatten().map(|&frame| usize::from(self.frame_entry(frame).tag));
+        let own_only = self.has(Bug::ShrinkFreesOwnOnly);
+        tags.any(|tag| tag < self.depth() || (own_only && tag != self.depth()))
     }
 
     /// Frees the frame of a departing page; another claim of that page stays.

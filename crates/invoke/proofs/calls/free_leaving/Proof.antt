@@ -1,5 +1,5 @@
--- `invoke::calls::free_leaving` meets its contract. The loop's invariant: the first i frames are done. A group without a region's frame is done as it
--- stands. The measure is what is left of them. Assumes nothing.
+-- `invoke::calls::free_leaving` meets its contract. The loop's invariant: the first i frames are done. A group without a region's frame is done
+-- as it stands. The measure is what is left of them. Assumes nothing.
 use Prim.Native.Nat.{ℕ, _≤_, _-_}
 use mathlib.Core.Path.{_≡_, refl, ap, _∙_}
 use mathlib.Core.Bool.{true}
@@ -10,6 +10,7 @@ use lib.ListN.{length}
 use Rattle.layout.specs.Control.{frameLimit}
 use Rattle.control.specs.Control.{frames, controlValid}
 use Rattle.control.proofs.Facts.{ControlFacts, control-facts}
+use Rattle.control.specs.declared.shadow.Region.the-variants.{Stack}
 use Rattle.frames.specs.Table.{frameEntryAt}
 use Rattle.invoke.specs.Invoke.{freedBelow}
 use Rattle.invoke.proofs.Freed.{run-kept, freed-only}
@@ -62,7 +63,7 @@ loop-again : tie.Need-loop-again Inv-loop μ-loop
 loop-again c = (
   omega arith,
   ⊎-elim (λ w. w .5 ∙ w .2 .ensures _ (c .before .before .before .before .loop .inv .1))
-      (λ w. w .1 ∙ run-kept _ _ _ (c .before .before .before .before .loop .inv .1) _ (c .before .group-may-hold-regions .ensures (w .0 .left)))
+      (λ w. w .1 ∙ run-kept _ _ _ (c .before .before .before .before .loop .inv .1) _ (c .before .group-may-hold-regions .ensures (w .0 .left) Stack))
       (c .if1 .came),
 )
 

@@ -1,0 +1,22 @@
+//! The buffers of a host.
+
+use hekthumar::*;
+
+#[derive(Clone, Debug, PartialEq)]
+pub struct Host {
+    pub snapshot: Vec<u8>,
+    pub control: Vec<u8>,
+    pub pool: Vec<u8>,
+}
+
+impl Host {
+    /// Every byte of control block and pool is `byte`.
+    pub fn filled(builder: SnapshotBuilder, frames: usize, byte: u8) -> Host {
+        let snapshot = builder.build().expect("it keeps every limit");
+        Host { snapshot, control: vec![byte; control_len(frames)], pool: vec![byte; pool_len(frames)] }
+    }
+
+    pub fn memory(&mut self) -> Memory<'_> {
+        Memory::new(&self.snapshot, &mut self.control, &mut self.pool)
+    }
+}
