@@ -16,8 +16,8 @@ use Rattle.snapshot.proofs.Facts.{getD-original}
 use Rattle.pages.specs.Pages.{pageStart, frameStart, inFrame, originalPage}
 use Rattle.pages.proofs.PageBytes.{length-original-page, original-byte}
 use Rattle.frames.specs.Table.{frameOf}
-use Rattle.frames.specs.declared.finding.Found.{Found}
-use Rattle.frames.specs.declared.finding.Found.the-variants.{At, Nothing}
+use Rattle.frames.specs.declared.claim.Found.{Found}
+use Rattle.frames.specs.declared.claim.Found.the-variants.{At, Nothing}
 use Rattle.segments.specs.Kinds.{kindLoad, kindLoadSpan}
 use Rattle.translate.specs.Translate.{translateOf}
 use Rattle.translate.specs.declared.place.NewCopy.{NewCopy}

@@ -15,8 +15,8 @@ use Rattle.choice.proofs.Every.{every-at, every-all}
 use Rattle.choice.proofs.Tests.{fails}
 use Rattle.control.specs.Control.{frames}
 use Rattle.frames.specs.Table.{frameEntryOf, claims, frameOf, isFound, isCopy}
-use Rattle.frames.specs.declared.finding.Found.{Found}
-use Rattle.frames.specs.declared.finding.Found.the-variants.{At, Nothing}
+use Rattle.frames.specs.declared.claim.Found.{Found}
+use Rattle.frames.specs.declared.claim.Found.the-variants.{At, Nothing}
 use Rattle.frames.proofs.Entries.{EntryRange, entry-range}
 use Rattle.frames.proofs.Claims.{IsCopy, claims-copy, copy-claims, frame-found, found-frame}
 use Rattle.changes.specs.Keys.{keyAccount, keyPage, keyClaim, keyLimit, isCopied, copyKeys}

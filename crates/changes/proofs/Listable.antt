@@ -13,7 +13,7 @@ use Rattle.choice.proofs.Every.{every-at, every-all}
 use Rattle.choice.proofs.Tests.{by-test, differ, both-true, fails}
 use Rattle.pages.specs.Pages.{pageThere}
 use Rattle.frames.specs.Table.{frameEntryOf, claims, isCopy}
-use Rattle.frames.specs.declared.finding.Claim.the-variants.{Copy}
+use Rattle.frames.specs.declared.claim.Claim.the-variants.{Copy}
 use Rattle.frames.proofs.Entries.{EntryRange, entry-range}
 use Rattle.frames.proofs.Claims.{claims-copy, copy-claims}
 use Rattle.changes.specs.List.{claimedBefore, copyListable, listable}

@@ -6,8 +6,8 @@ use Rattle.choice.specs.Search.{picked}
 use Rattle.snapshot.specs.declared.accounts.Account.{Account}
 use Rattle.pages.specs.declared.Page.{Page}
 use Rattle.frames.specs.Table.{frameOf, isFound}
-use Rattle.frames.specs.declared.finding.Claim.{Claim}
-use Rattle.frames.specs.declared.finding.Claim.the-variants.{Copy}
+use Rattle.frames.specs.declared.claim.Claim.{Claim}
+use Rattle.frames.specs.declared.claim.Claim.the-variants.{Copy}
 
 -- account and page as one number, in whose order (account, page) ascends
 abbrev pub keyOf : ℕ → ℕ → ℕ

@@ -15,9 +15,9 @@ use Rattle.refusal.specs.declared.Refusal.the-variants.{Invalid, ShortOutput}
 use Rattle.control.specs.Control.{frames, buffersValid}
 use Rattle.pages.specs.Pages.{frameStart, live, pageThere}
 use Rattle.frames.specs.Table.{frameEntryOf, claims, frameOf, isCopy}
-use Rattle.frames.specs.declared.finding.Claim.the-variants.{Copy}
-use Rattle.frames.specs.declared.finding.Found.{Found}
-use Rattle.frames.specs.declared.finding.Found.the-variants.{At, Nothing}
+use Rattle.frames.specs.declared.claim.Claim.the-variants.{Copy}
+use Rattle.frames.specs.declared.claim.Found.{Found}
+use Rattle.frames.specs.declared.claim.Found.the-variants.{At, Nothing}
 use Rattle.changes.specs.Entry.{changeBytes, changeOf}
 use Rattle.changes.specs.Keys.{keyAccount, keyPage, keyClaim, copyKeys}
 use Rattle.changes.specs.declared.entry.Change.{Change}

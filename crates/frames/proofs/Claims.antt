@@ -21,9 +21,9 @@ use Rattle.pages.specs.declared.Frame.{Frame}
 use Rattle.pages.specs.declared.Page.{Page}
 use Rattle.frames.specs.Table.{entryEnd, frameEntryOf, putFrameEntry, usageOf, holds, claims, isFree, foundIn, frameOf}
 use Rattle.frames.specs.declared.table.FrameEntry.{FrameEntry}
-use Rattle.frames.specs.declared.finding.Claim.{Claim}
-use Rattle.frames.specs.declared.finding.Claim.the-variants.{Copy, Anonymous}
-use Rattle.frames.specs.declared.finding.Found.the-variants.{At, Nothing}
+use Rattle.frames.specs.declared.claim.Claim.{Claim}
+use Rattle.frames.specs.declared.claim.Claim.the-variants.{Copy, Anonymous}
+use Rattle.frames.specs.declared.claim.Found.the-variants.{At, Nothing}
 use Rattle.frames.proofs.Entries.{EntryRange, entry-other, entry-same}
 use Rattle.frames.proofs.Untouched.{frames-kept}
 use Rattle.frames.proofs.Found.{First, at-first, nothing-none, first-at, none-nothing}

@@ -12,7 +12,7 @@ use Rattle.choice.proofs.Tests.{by-test}
 use Rattle.choice.proofs.Lowest.{lowest-hits, lowest-misses, lowest-none, lowest-is}
 use Rattle.pages.specs.declared.Frame.{Frame}
 use Rattle.frames.specs.Table.{foundIn}
-use Rattle.frames.specs.declared.finding.Found.the-variants.{At, Nothing}
+use Rattle.frames.specs.declared.claim.Found.the-variants.{At, Nothing}
 
 -- i is the first index below n that passes the test
 pub record First (t : ℕ → Bool) (n i : ℕ) : Type 0 where

@@ -13,7 +13,7 @@ use Rattle.control.specs.Control.{frames}
 use Rattle.pages.specs.declared.Frame.{Frame}
 use Rattle.frames.specs.Table.{entryEnd, frameEntryOf, putFrameEntry, isFree, freeFrame, freeCount}
 use Rattle.frames.specs.declared.table.FrameEntry.{FrameEntry}
-use Rattle.frames.specs.declared.finding.Found.the-variants.{At}
+use Rattle.frames.specs.declared.claim.Found.the-variants.{At}
 use Rattle.frames.proofs.Entries.{EntryRange, entry-other, entry-same}
 use Rattle.frames.proofs.Untouched.{frames-kept}
 use Rattle.frames.proofs.Claims.{unused}

@@ -11,7 +11,7 @@ use Rattle.words.proofs.Word.{word-behind}
 use Rattle.control.specs.Control.{frames, invocations, invocationOf, buffersValid}
 use Rattle.frames.specs.Table.{frameEntryAt, frameField, frameEntryOf, putFrameEntry, holds, claims}
 use Rattle.frames.specs.declared.table.FrameEntry.{FrameEntry}
-use Rattle.frames.specs.declared.finding.Claim.{Claim}
+use Rattle.frames.specs.declared.claim.Claim.{Claim}
 use Rattle.frames.proofs.OnlyTable.{table-put, table-frames, table-invocations, table-invocation, table-buffers}
 
 -- ---- a write of an entry

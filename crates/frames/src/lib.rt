@@ -1,7 +1,4 @@
 // The frame table of the control block: which frame of the pool holds which page. An entry has 8 bytes: a use byte, a tag byte,
 // the account, the page, and two zero bytes.
-mod counting;
-pub mod finding;
-mod keyed;
-pub mod search;
+pub mod claim;
 pub mod table;

@@ -11,8 +11,8 @@ use Rattle.snapshot.specs.Accounts.{entryOf, entryValid, dataLength, original}
 use Rattle.control.specs.Control.{frames, invocations, invocationOf, buffersValid}
 use Rattle.control.specs.Buffers.{Buffers}
 use Rattle.frames.specs.Table.{frameEntryOf, claims}
-use Rattle.frames.specs.declared.finding.Claim.{Claim}
-use Rattle.frames.specs.declared.finding.Claim.the-variants.{Copy}
+use Rattle.frames.specs.declared.claim.Claim.{Claim}
+use Rattle.frames.specs.declared.claim.Claim.the-variants.{Copy}
 use Rattle.frames.proofs.Entries.{EntryRange}
 use Rattle.changes.specs.Keys.{keyOf, keyLimit, isCopied}
 use Rattle.history.specs.Replay.{Replay}

@@ -20,9 +20,9 @@ use Rattle.control.specs.Control.{depth, current, buffersValid}
 use Rattle.control.specs.declared.shadow.Region.the-variants as region
 use Rattle.pages.specs.Pages.{pageOf}
 use Rattle.frames.specs.Table.{frameEntryOf, frameOf}
-use Rattle.frames.specs.declared.finding.Claim.the-variants.{Anonymous}
-use Rattle.frames.specs.declared.finding.Found.{Found}
-use Rattle.frames.specs.declared.finding.Found.the-variants.{At, Nothing}
+use Rattle.frames.specs.declared.claim.Claim.the-variants.{Anonymous}
+use Rattle.frames.specs.declared.claim.Found.{Found}
+use Rattle.frames.specs.declared.claim.Found.the-variants.{At, Nothing}
 use Rattle.frames.specs.declared.table.FrameEntry.{FrameEntry}
 use Rattle.frames.proofs.Claims.{claims-page, frame-found}
 use Rattle.segments.specs.Kinds.{isStore}

@@ -24,9 +24,9 @@ use Rattle.pages.proofs.PageBytes.{live-positive}
 use Rattle.pages.specs.Pages.{live, pageThere}
 use Rattle.pages.specs.declared.Frame.{Frame}
 use Rattle.frames.specs.Table.{frameEntryOf, claims, frameOf, isFound, isCopy}
-use Rattle.frames.specs.declared.finding.Claim.the-variants.{Copy}
-use Rattle.frames.specs.declared.finding.Found.{Found}
-use Rattle.frames.specs.declared.finding.Found.the-variants.{At, Nothing}
+use Rattle.frames.specs.declared.claim.Claim.the-variants.{Copy}
+use Rattle.frames.specs.declared.claim.Found.{Found}
+use Rattle.frames.specs.declared.claim.Found.the-variants.{At, Nothing}
 use Rattle.frames.proofs.Found.{First}
 use Rattle.frames.proofs.Claims.{copy-claims, frame-found, frame-none}
 use Rattle.changes.specs.Keys.{keyAccount, keyPage, keyClaim, keyLimit, isCopied, copyKeys}

@@ -17,8 +17,8 @@ use Rattle.refusal.specs.Numbers.{done}
 use Rattle.address.specs.Address.{typeOf, indexOf, offsetOf}
 use Rattle.control.specs.Buffers.{Buffers}
 use Rattle.frames.specs.Table.{frameOf}
-use Rattle.frames.specs.declared.finding.Found.{Found}
-use Rattle.frames.specs.declared.finding.Found.the-variants.{At, Nothing}
+use Rattle.frames.specs.declared.claim.Found.{Found}
+use Rattle.frames.specs.declared.claim.Found.the-variants.{At, Nothing}
 use Rattle.frames.proofs.Claims.{frame-found}
 use Rattle.segments.specs.Kinds.{kindLoad, kindLoadSpan}
 use Rattle.translate.specs.Place.{numberOfAnswer}

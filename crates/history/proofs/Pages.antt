@@ -12,8 +12,8 @@ use Rattle.control.specs.Control.{frames}
 use Rattle.control.proofs.Facts.{buffers-facts}
 use Rattle.control.specs.Buffers.{Buffers}
 use Rattle.frames.specs.Table.{frameEntryOf, claims, frameOf, isFound}
-use Rattle.frames.specs.declared.finding.Claim.{Claim}
-use Rattle.frames.specs.declared.finding.Found.the-variants.{At}
+use Rattle.frames.specs.declared.claim.Claim.{Claim}
+use Rattle.frames.specs.declared.claim.Found.the-variants.{At}
 use Rattle.frames.proofs.Entries.{EntryRange}
 use Rattle.frames.proofs.Found.{lowest-first}
 use Rattle.frames.proofs.Claims.{IsCopy, claims-copy, found-frame}

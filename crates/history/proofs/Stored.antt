@@ -27,10 +27,10 @@ use Rattle.control.proofs.Facts.{BuffersFacts, control-facts, buffers-facts}
 use Rattle.control.specs.Buffers.{Buffers}
 use Rattle.pages.proofs.PageBytes.{elsewhere, alike, length-original-page}
 use Rattle.pages.specs.Pages.{originalPage}
-use Rattle.frames.specs.declared.finding.Claim.the-variants.{Copy}
+use Rattle.frames.specs.declared.claim.Claim.the-variants.{Copy}
 use Rattle.frames.specs.Table.{entryEnd, frameEntryOf, usageOf, holds, claims, isFree, frameOf}
-use Rattle.frames.specs.declared.finding.Claim.{Claim}
-use Rattle.frames.specs.declared.finding.Found.the-variants.{Nothing}
+use Rattle.frames.specs.declared.claim.Claim.{Claim}
+use Rattle.frames.specs.declared.claim.Found.the-variants.{Nothing}
 use Rattle.frames.proofs.Entries.{EntryRange, entry-same, entry-other}
 use Rattle.frames.proofs.Untouched.{frames-kept, invocations-kept, invocation-kept, buffers-valid-kept}
 use Rattle.frames.proofs.Claims.{holds-copy, copy-holds, claims-copy, claims-page, claims-one, claims-same, claims-other, free-claims, frame-found, frame-none, frame-taken, frame-kept}

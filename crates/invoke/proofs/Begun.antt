@@ -17,7 +17,7 @@ use Rattle.refusal.proofs.Checks.{need-last}
 use Rattle.control.specs.Control.{frames, invocations, setPages, sizeOf}
 use Rattle.control.specs.declared.shadow.Region.the-variants.{Stack}
 use Rattle.frames.specs.Table.{isFree, freeFrame, freeCount, putFrameEntry}
-use Rattle.frames.specs.declared.finding.Found.the-variants.{At}
+use Rattle.frames.specs.declared.claim.Found.the-variants.{At}
 use Rattle.frames.proofs.Found.{first-at}
 use Rattle.frames.proofs.OnlyTable.{table-put, table-invocations}
 use Rattle.regions.specs.Resize.{Resized, growOne, grown, growCheck, growTo, resizeTo}

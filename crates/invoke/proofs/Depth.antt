@@ -19,7 +19,7 @@ use Rattle.control.proofs.Live.{live-frames, live-word, live-invocation, live-s
 use Rattle.control.proofs.Records.{OnlyRecord, invocation-other, header-kept, record-valid, table-kept, put-only, invocation-same, clear-only, pages-only, withPages, pages-set}
 use Rattle.pages.specs.declared.Page.{Page}
 use Rattle.frames.specs.Table.{frameEntryAt, frameField, frameEntryOf, holds, claims}
-use Rattle.frames.specs.declared.finding.Claim.the-variants.{Copy}
+use Rattle.frames.specs.declared.claim.Claim.the-variants.{Copy}
 use Rattle.frames.proofs.OnlyTable.{OnlyTable, table-frames, table-invocation, table-valid}
 use Rattle.frames.proofs.Untouched.{entry-above}
 use Rattle.invoke.specs.Invoke.{called, freedBelow, handOver, returned}

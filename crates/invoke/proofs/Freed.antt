@@ -17,12 +17,12 @@ use Rattle.snapshot.specs.declared.accounts.Account.{Account}
 use Rattle.control.specs.declared.shadow.Region.the-variants.{Stack}
 use Rattle.pages.specs.declared.Page.{Page}
 use Rattle.frames.specs.Table.{frameEntryAt, entryEnd, frameEntryOf, freeFrameEntry, zeroEntry, usageOf, holds, claims}
-use Rattle.frames.specs.Match.{NoneOf}
 use Rattle.frames.specs.declared.table.FrameEntry.{FrameEntry}
-use Rattle.frames.specs.declared.finding.Claim.the-variants.{Copy}
+use Rattle.frames.specs.declared.claim.Claim.the-variants.{Copy}
 use Rattle.frames.proofs.Entries.{zero-range, entry-same, entry-other}
 use Rattle.frames.proofs.Claims.{holds-copy}
 use Rattle.frames.proofs.OnlyTable.{OnlyTable, table-same, table-put, table-then}
+use Rattle.frame_search.specs.Match.{NoneOf}
 use Rattle.invoke.specs.Invoke.{leaves, freeLeaving, freedBelow}
 
 -- ---- which entries leave

@@ -21,7 +21,7 @@ use Rattle.control.proofs.Facts.{control-valid, current-valid}
 use Rattle.control.proofs.Kept.{Only, Apart, only-splice, word-kept}
 use Rattle.control.proofs.Records.{invocation-is}
 use Rattle.frames.specs.Table.{frameEntryAt, frameField, frameEntryOf, zeroEntry, claims, isFree}
-use Rattle.frames.specs.declared.finding.Claim.{Claim}
+use Rattle.frames.specs.declared.claim.Claim.{Claim}
 use Rattle.frames.proofs.Claims.{free-claims}
 use Rattle.invoke.specs.Invoke.{framesIn, roomValid, headerBytes, fresh}
 use Rattle.invoke.specs.declared.begin.Start.{Start}

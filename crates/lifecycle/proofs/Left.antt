@@ -15,7 +15,7 @@ use Rattle.control.specs.declared.shadow.Region.{Region}
 use Rattle.control.specs.declared.shadow.Region.the-variants.{Heap}
 use Rattle.pages.specs.declared.Page.{Page}
 use Rattle.frames.specs.Table.{frameEntryOf, usageOf, claims, foundIn, frameOf}
-use Rattle.frames.specs.declared.finding.Claim.the-variants.{Anonymous}
+use Rattle.frames.specs.declared.claim.Claim.the-variants.{Anonymous}
 use Rattle.frames.proofs.Claims.{claims-page}
 use Rattle.invoke.specs.Invoke.{returned}
 use Rattle.invoke.proofs.Freed.{leaves-other}

@@ -9,7 +9,7 @@ use Rattle.control.specs.declared.shadow.Region.{Region}
 use Rattle.control.specs.declared.shadow.Region.the-variants.{Heap}
 use Rattle.pages.specs.declared.Page.{Page}
 use Rattle.frames.specs.Table.{frameEntryOf, usageOf, frameOf}
-use Rattle.frames.specs.declared.finding.Claim.the-variants.{Anonymous}
+use Rattle.frames.specs.declared.claim.Claim.the-variants.{Anonymous}
 use Rattle.invoke.specs.Invoke.{returned}
 use Rattle.regions.specs.Resize.{shrinkCheck}
 use Rattle.lifecycle.specs.Regions.{holdsPage}

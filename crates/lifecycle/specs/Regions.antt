@@ -12,7 +12,7 @@ use Rattle.control.specs.Control.{frames, invocations, sizeIn, sizeOf}
 use Rattle.control.specs.declared.shadow.Region.{Region}
 use Rattle.control.specs.declared.shadow.Region.the-variants.{Stack, Heap}
 use Rattle.frames.specs.Table.{frameEntryOf, usageOf, claims, isFree}
-use Rattle.frames.specs.declared.finding.Claim.the-variants.{Anonymous}
+use Rattle.frames.specs.declared.claim.Claim.the-variants.{Anonymous}
 use Rattle.regions.specs.Resize.{pageAt}
 
 -- ---- pages and frames: what the frame count needs

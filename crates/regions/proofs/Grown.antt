@@ -23,9 +23,9 @@ use Rattle.control.proofs.Facts.{ControlFacts, control-facts}
 use Rattle.pages.specs.declared.Page.{Page}
 use Rattle.frames.specs.Table.{frameEntryOf, putFrameEntry, usageOf, holds, claims, isFree, freeFrame, freeCount}
 use Rattle.frames.specs.declared.table.FrameEntry.{FrameEntry}
-use Rattle.frames.specs.declared.finding.Claim.the-variants.{Copy, Anonymous}
-use Rattle.frames.specs.declared.finding.Found.{Found}
-use Rattle.frames.specs.declared.finding.Found.the-variants.{At, Nothing}
+use Rattle.frames.specs.declared.claim.Claim.the-variants.{Copy, Anonymous}
+use Rattle.frames.specs.declared.claim.Found.{Found}
+use Rattle.frames.specs.declared.claim.Found.the-variants.{At, Nothing}
 use Rattle.frames.proofs.Entries.{EntryRange, entry-other, entry-same}
 use Rattle.frames.proofs.OnlyTable.{OnlyTable, table-same, table-put, table-then, table-frames, table-invocations, table-valid}
 use Rattle.frames.proofs.Found.{First}

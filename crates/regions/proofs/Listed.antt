@@ -20,9 +20,9 @@ use Rattle.choice.proofs.Every.{every-fails, every-all}
 use Rattle.control.specs.Control.{frames, controlValid}
 use Rattle.control.specs.declared.shadow.Region.{Region}
 use Rattle.frames.specs.Table.{entryEnd, claims, isFound, foundIn, frameOf}
-use Rattle.frames.specs.declared.finding.Claim.the-variants.{Anonymous}
+use Rattle.frames.specs.declared.claim.Claim.the-variants.{Anonymous}
 use Rattle.frames.proofs.Claims.{frame-found}
-use Rattle.frames.proofs.Loops.{search-start}
+use Rattle.frame_search.proofs.Loops.{search-start}
 use Rattle.regions.specs.Resize.{pageAt, pageFrame, allHeld, FramesOf}
 use Rattle.regions.proofs.Pages.{entry-inside}
 

@@ -16,8 +16,8 @@ use Rattle.control.proofs.Facts.{ControlFacts, control-facts}
 use Rattle.pages.specs.declared.Page.{Page}
 use Rattle.frames.specs.Table.{entryEnd, frameEntryOf, usageOf, holds, claims, isFree}
 use Rattle.frames.specs.declared.table.FrameEntry.{FrameEntry}
-use Rattle.frames.specs.declared.finding.Claim.{Claim}
-use Rattle.frames.specs.declared.finding.Claim.the-variants.{Copy}
+use Rattle.frames.specs.declared.claim.Claim.{Claim}
+use Rattle.frames.specs.declared.claim.Claim.the-variants.{Copy}
 use Rattle.frames.proofs.Entries.{EntryRange}
 use Rattle.frames.proofs.Claims.{unused}
 use Rattle.regions.specs.Resize.{pageAt, regionEntry}

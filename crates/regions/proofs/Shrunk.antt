@@ -17,9 +17,9 @@ use Rattle.pages.specs.declared.Frame.{Frame}
 use Rattle.pages.specs.declared.Page.{Page}
 use Rattle.frames.specs.Table.{entryEnd, frameEntryOf, zeroEntry, holds, claims}
 use Rattle.frames.specs.declared.table.FrameEntry.{FrameEntry}
-use Rattle.frames.specs.declared.finding.Claim.the-variants.{Copy}
-use Rattle.frames.specs.declared.finding.Found.{Found}
-use Rattle.frames.specs.declared.finding.Found.the-variants.{At, Nothing}
+use Rattle.frames.specs.declared.claim.Claim.the-variants.{Copy}
+use Rattle.frames.specs.declared.claim.Found.{Found}
+use Rattle.frames.specs.declared.claim.Found.the-variants.{At, Nothing}
 use Rattle.frames.proofs.Entries.{entry-other, entry-same, zero-range}
 use Rattle.frames.proofs.OnlyTable.{OnlyTable, table-same, table-put, table-then}
 use Rattle.frames.proofs.Claims.{claims-holds, claims-copy, claims-page, frame-found}

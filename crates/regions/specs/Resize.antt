@@ -22,9 +22,9 @@ use Rattle.pages.specs.declared.Page.{Page}
 use Rattle.pages.specs.Pages.{frameStart}
 use Rattle.frames.specs.Table.{frameEntryOf, putFrameEntry, freeFrameEntry, usageOf, frameOf, freeFrame, freeCount, isFound}
 use Rattle.frames.specs.declared.table.FrameEntry.{FrameEntry}
-use Rattle.frames.specs.declared.finding.Claim.the-variants.{Anonymous}
-use Rattle.frames.specs.declared.finding.Found.{Found}
-use Rattle.frames.specs.declared.finding.Found.the-variants.{At, Nothing}
+use Rattle.frames.specs.declared.claim.Claim.the-variants.{Anonymous}
+use Rattle.frames.specs.declared.claim.Found.{Found}
+use Rattle.frames.specs.declared.claim.Found.the-variants.{At, Nothing}
 
 -- the k-th page of a region, "nearest page first": the heap from page 0 up, the stack from page 4,095 down
 abbrev pub pageAt : Region → ℕ → Page

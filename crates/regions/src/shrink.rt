@@ -3,7 +3,7 @@ use control::header::frame_count;
 use control::header::invocation_count;
 use control::shadow::Region;
 use control::shadow::set_pages;
-use frames::finding::usage_of;
+use frames::claim::usage_of;
 use frames::table::entry_at;
 use frames::table::frame_entry;
 use frames::table::free_frame_entry;
@@ -23,7 +23,7 @@ ghost use Rattle.layout.specs.Page.{pageLimit};
 ghost use Rattle.refusal.specs.Checks.{checkNumber};
 ghost use Rattle.control.specs.Control.{controlValid, frames, current, pagesOf};
 ghost use Rattle.frames.specs.Table.{entryEnd, claims};
-ghost use Rattle.frames.specs.declared.finding.Claim.the-variants.{Anonymous};
+ghost use Rattle.frames.specs.declared.claim.Claim.the-variants.{Anonymous};
 ghost use Rattle.regions.specs.Resize.{FramesOf, pageAt, allHeld, allLeave, shrunk, shrinkCheck, shrinkControl};
 
 // No frame has this number: it stands in a table for a page whose frame is not found yet.

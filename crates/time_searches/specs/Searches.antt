@@ -4,9 +4,9 @@ use mathlib.Core.Path.{_≡_}
 use mathlib.Core.List.{List}
 use Rattle.control.specs.declared.shadow.Region.the-variants.{Stack}
 use Rattle.frames.specs.Table.{frameOf}
-use Rattle.frames.specs.declared.finding.Claim.{Claim}
-use Rattle.frames.specs.declared.finding.Claim.the-variants.{Copy, Anonymous}
-use Rattle.frames.specs.declared.finding.Found.the-variants.{At}
+use Rattle.frames.specs.declared.claim.Claim.{Claim}
+use Rattle.frames.specs.declared.claim.Claim.the-variants.{Copy, Anonymous}
+use Rattle.frames.specs.declared.claim.Found.the-variants.{At}
 use Rattle.time_searches.specs.declared.searches.Kind.{Kind}
 use Rattle.time_searches.specs.declared.searches.Kind.the-variants.{AccountPages, StackPages}
 

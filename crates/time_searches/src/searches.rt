@@ -1,8 +1,8 @@
 // Ten thousand searches, one after the other.
 use control::shadow::Region;
-use frames::finding::Claim;
-use frames::finding::Found;
-use frames::finding::frame_of;
+use frame_search::finding::frame_of;
+use frames::claim::Claim;
+use frames::claim::Found;
 use pages::Page;
 use snapshot::accounts::Account;
 ghost use mathlib.Core.Path.{_≡_};

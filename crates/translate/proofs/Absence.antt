@@ -19,8 +19,8 @@ use Rattle.snapshot.specs.Header.{accounts}
 use Rattle.control.specs.Control.{depth}
 use Rattle.control.specs.declared.shadow.Region.the-variants as region
 use Rattle.frames.specs.Table.{frameEntryOf, frameOf, freeFrame}
-use Rattle.frames.specs.declared.finding.Found.{Found}
-use Rattle.frames.specs.declared.finding.Found.the-variants.{At, Nothing}
+use Rattle.frames.specs.declared.claim.Found.{Found}
+use Rattle.frames.specs.declared.claim.Found.the-variants.{At, Nothing}
 use Rattle.segments.specs.Kinds.{isStore}
 use Rattle.segments.specs.Rules.{rules, rowOf}
 use Rattle.segments.specs.declared.rules.Presence.{Presence}

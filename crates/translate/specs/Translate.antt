@@ -21,9 +21,9 @@ use Rattle.control.specs.declared.shadow.Region.{Region}
 use Rattle.control.specs.declared.shadow.Region.the-variants as region
 use Rattle.pages.specs.Pages.{inFrame, pageOf}
 use Rattle.frames.specs.Table.{frameEntryOf, frameOf, freeFrame}
-use Rattle.frames.specs.declared.finding.Claim.the-variants.{Copy, Anonymous}
-use Rattle.frames.specs.declared.finding.Found.{Found}
-use Rattle.frames.specs.declared.finding.Found.the-variants.{At, Nothing}
+use Rattle.frames.specs.declared.claim.Claim.the-variants.{Copy, Anonymous}
+use Rattle.frames.specs.declared.claim.Found.{Found}
+use Rattle.frames.specs.declared.claim.Found.the-variants.{At, Nothing}
 use Rattle.segments.specs.Kinds.{isStore, requestValid}
 use Rattle.segments.specs.Rules.{rules, rowOf, permitted}
 use Rattle.segments.specs.declared.rules.Presence.{Presence}

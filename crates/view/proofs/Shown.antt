@@ -21,9 +21,9 @@ use Rattle.pages.specs.Pages.{live}
 use Rattle.pages.specs.declared.Page.{Page}
 use Rattle.pages.proofs.PageBytes.{live-most, live-inside}
 use Rattle.frames.specs.Table.{frameOf}
-use Rattle.frames.specs.declared.finding.Claim.the-variants.{Copy}
-use Rattle.frames.specs.declared.finding.Found.{Found}
-use Rattle.frames.specs.declared.finding.Found.the-variants.{At, Nothing}
+use Rattle.frames.specs.declared.claim.Claim.the-variants.{Copy}
+use Rattle.frames.specs.declared.claim.Found.{Found}
+use Rattle.frames.specs.declared.claim.Found.the-variants.{At, Nothing}
 use Rattle.frames.proofs.Claims.{frame-found}
 use Rattle.view.specs.View.{viewCheck, viewIn, orRefused, viewOf}
 use Rattle.view.specs.declared.View.{View}

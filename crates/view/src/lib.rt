@@ -1,8 +1,8 @@
 // The view of an account's page: the part of the snapshot or of the pool that holds its live bytes now.
 use control::buffers::buffers_valid;
-use frames::finding::Claim;
-use frames::finding::Found;
-use frames::finding::frame_of;
+use frame_search::finding::frame_of;
+use frames::claim::Claim;
+use frames::claim::Found;
 use pages::Page;
 use pages::frame_start;
 use pages::live_bytes;

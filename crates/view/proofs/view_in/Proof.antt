@@ -14,9 +14,9 @@ use Rattle.pages.specs.Pages.{pageStart, frameStart, liveOf}
 use Rattle.pages.specs.declared.Page.{Page}
 use Rattle.pages.specs.declared.Frame.{Frame}
 use Rattle.frames.specs.Table.{frameOf}
-use Rattle.frames.specs.declared.finding.Claim.the-variants.{Copy}
-use Rattle.frames.specs.declared.finding.Found.{Found}
-use Rattle.frames.specs.declared.finding.Found.the-variants.{At, Nothing}
+use Rattle.frames.specs.declared.claim.Claim.the-variants.{Copy}
+use Rattle.frames.specs.declared.claim.Found.{Found}
+use Rattle.frames.specs.declared.claim.Found.the-variants.{At, Nothing}
 use Rattle.view.specs.View.{viewOfEntry}
 use Rattle.view.specs.declared.View.the-variants.{InSnapshot, InPool, Refused}
 use Rattle.view.proofs.view_in.Statement.{statement}

@@ -7,7 +7,7 @@ use borrow.Author.Needs.{needs}
 use Rattle.words.specs.Words.{wordAt}
 use Rattle.frames.specs.Table.{frameEntryAt, frameField, frameEntryOf}
 use Rattle.frames.specs.declared.table.FrameEntry.{FrameEntry}
-use Rattle.frames.proofs.Loops.{byte-is, field-is}
+use Rattle.frames.proofs.Fields.{byte-is, field-is}
 use Rattle.frames.proofs.table.entry_at.Statement.{statement}
 use Rattle.frames.proofs.table.entry_at.Tie as tie
 

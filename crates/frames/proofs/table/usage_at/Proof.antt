@@ -1,7 +1,7 @@
 -- `frames::table::usage_at` meets its contract: the byte that is read is the entry's first. Assumes nothing.
 use native.Mathlib.Omega.{arith}
 use borrow.Author.Needs.{needs}
-use Rattle.frames.proofs.Loops.{byte-is}
+use Rattle.frames.proofs.Fields.{byte-is}
 use Rattle.frames.proofs.table.usage_at.Statement.{statement}
 use Rattle.frames.proofs.table.usage_at.Tie as tie
 

@@ -17,7 +17,7 @@ use Rattle.pages.specs.declared.Page.{Page}
 use Rattle.frames.specs.Table.{entryEnd, putFrameEntry, isFree, freeCount}
 use Rattle.frames.proofs.OnlyTable.{table-frames, table-invocations}
 use Rattle.frames.proofs.Claims.{free-other}
-use Rattle.frames.proofs.Loops.{search-start}
+use Rattle.frame_search.proofs.Loops.{search-start}
 use Rattle.regions.specs.Resize.{pageAt, regionEntry, grown}
 use Rattle.regions.proofs.Grown.{nextFree, Took, grown-only, grown-pool, grown-took}
 use Rattle.regions.proofs.grow.take_pages.Statement.{statement}

@@ -5,9 +5,9 @@ use mathlib.Core.List.{List}
 use native.Mathlib.Omega.{arith}
 use borrow.Author.Needs.{needs}
 use Rattle.frames.specs.Table.{frameOf}
-use Rattle.frames.specs.declared.finding.Claim.{Claim}
-use Rattle.frames.specs.declared.finding.Found.{Found}
-use Rattle.frames.specs.declared.finding.Found.the-variants.{At, Nothing}
+use Rattle.frames.specs.declared.claim.Claim.{Claim}
+use Rattle.frames.specs.declared.claim.Found.{Found}
+use Rattle.frames.specs.declared.claim.Found.the-variants.{At, Nothing}
 use Rattle.pages.specs.declared.Frame.{Frame}
 use Rattle.time_searches.specs.Searches.{claimOf, EndsAt}
 use Rattle.time_searches.specs.declared.searches.Kind.{Kind}

@@ -9,9 +9,9 @@ use Rattle.control.proofs.Facts.{ControlFacts, control-facts}
 use Rattle.pages.specs.Pages.{pageOf}
 use Rattle.pages.specs.declared.Page.{Page}
 use Rattle.frames.specs.Table.{frameOf}
-use Rattle.frames.specs.declared.finding.Claim.the-variants.{Copy}
-use Rattle.frames.specs.declared.finding.Found.{Found}
-use Rattle.frames.specs.declared.finding.Found.the-variants.{Nothing}
+use Rattle.frames.specs.declared.claim.Claim.the-variants.{Copy}
+use Rattle.frames.specs.declared.claim.Found.{Found}
+use Rattle.frames.specs.declared.claim.Found.the-variants.{Nothing}
 use Rattle.frames.proofs.Claims.{search-found, search-none}
 use Rattle.translate.specs.Translate.{dataPlaceIn, dataPlace}
 use Rattle.translate.proofs.framed.data_place.Statement.{statement}

@@ -14,9 +14,9 @@ use Rattle.pages.specs.Pages.{pageOf}
 use Rattle.pages.specs.declared.Frame.{Frame}
 use Rattle.pages.specs.declared.Page.{Page}
 use Rattle.frames.specs.Table.{frameEntryOf, frameOf}
-use Rattle.frames.specs.declared.finding.Claim.the-variants.{Anonymous}
-use Rattle.frames.specs.declared.finding.Found.{Found}
-use Rattle.frames.specs.declared.finding.Found.the-variants.{At}
+use Rattle.frames.specs.declared.claim.Claim.the-variants.{Anonymous}
+use Rattle.frames.specs.declared.claim.Found.{Found}
+use Rattle.frames.specs.declared.claim.Found.the-variants.{At}
 use Rattle.frames.specs.declared.table.FrameEntry.{FrameEntry}
 use Rattle.frames.proofs.Claims.{search-found, search-none}
 use Rattle.translate.specs.Translate.{regionPlaceIn, regionPlace}

@@ -1,0 +1,31 @@
+// What an entry of the table may claim, by which use byte, and what a search of the table finds.
+use control::shadow::Region;
+use layout::control::HEAP;
+use layout::control::STACK;
+use pages::Frame;
+use pages::Page;
+use snapshot::accounts::Account;
+ghost use mathlib.Core.Path.{_≡_};
+ghost use Rattle.frames.specs.Table.{usageOf};
+
+// What a frame is asked for: the copy of an account's page, or a page of a region.
+pub enum Claim {
+    Copy(Account, Page),
+    Anonymous(Region, Page),
+}
+
+// What a search of the frame table finds.
+pub enum Found {
+    At(Frame),
+    Nothing,
+}
+
+// The use byte of a region's frames.
+pub fn usage_of(r: Region) -> u8
+    ensures { λ n. ⌜ n ≡ usageOf r ⌝ }
+{
+    match r {
+        Region::Stack => STACK,
+        Region::Heap => HEAP,
+    }
+}
