@@ -17,9 +17,10 @@
  *    4  no such segment, account or program    11  output too short
  *    5  misaligned                             12  bad change list
  *    6  crosses a 4,096 boundary               13  a byte absent
+ *                                              14  a returned value's discriminant
  *
- * Every number but 0 changes no lent byte; a value is then 0 and a view is empty. With 13 an access also gives the distance from its first
- * byte to the first absent one: that many of its bytes come before it. With every other number the distance is 0.
+ * Every number but 0 changes no lent byte; a value is then 0, a view is empty and a record is zeros. With 13 an access also gives the distance
+ * from its first byte to the first absent one: that many of its bytes come before it. With every other number the distance is 0.
  */
 #ifndef HEKTHUMAR_H
 #define HEKTHUMAR_H
@@ -129,7 +130,7 @@ typedef struct {
     uint8_t number;
 } hekthumar_value;
 
-/* Of a store, a span load or a span store. */
+/* Of a store, a span load, a span store or a record's write. */
 typedef struct {
     uint16_t distance;
     uint8_t number;
@@ -152,6 +153,70 @@ typedef struct {
     uint8_t holder;
     uint8_t number;
 } hekthumar_view;
+
+/* Records that programs pass data by, in their memory as here in C: little-endian, without a gap. */
+
+/* A buffer descriptor: where `length` bytes start. The pointer is an address of the machine, and is passed on unchecked. */
+typedef struct {
+    uint64_t pointer;
+    uint64_t length;
+} hekthumar_buffer;
+
+typedef struct {
+    hekthumar_buffer kind;
+    hekthumar_buffer data;
+} hekthumar_event;
+
+typedef struct {
+    hekthumar_buffer file;
+    uint32_t line;
+    uint32_t column;
+} hekthumar_location;
+
+typedef struct {
+    hekthumar_buffer context_id;
+    hekthumar_buffer function;
+    hekthumar_buffer params;
+} hekthumar_call_record;
+
+typedef struct {
+    uint64_t discriminant; /* HEKTHUMAR_RETURNED_OK or HEKTHUMAR_RETURNED_ERR */
+    hekthumar_buffer buffer;
+} hekthumar_returned;
+
+#define HEKTHUMAR_RETURNED_OK 0
+#define HEKTHUMAR_RETURNED_ERR 1
+
+/* Of a record's read. */
+typedef struct {
+    hekthumar_buffer record;
+    uint16_t distance;
+    uint8_t number;
+} hekthumar_read_buffer_answer;
+
+typedef struct {
+    hekthumar_event record;
+    uint16_t distance;
+    uint8_t number;
+} hekthumar_read_event_answer;
+
+typedef struct {
+    hekthumar_location record;
+    uint16_t distance;
+    uint8_t number;
+} hekthumar_read_location_answer;
+
+typedef struct {
+    hekthumar_call_record record;
+    uint16_t distance;
+    uint8_t number;
+} hekthumar_read_call_record_answer;
+
+typedef struct {
+    hekthumar_returned record;
+    uint16_t distance;
+    uint8_t number;
+} hekthumar_read_returned_answer;
 
 /* The address of a type, an index and an offset below 2^24; else 3 and the address 0. */
 hekthumar_address hekthumar_join(uint8_t type, uint16_t index, uint32_t offset);
@@ -192,6 +257,29 @@ hekthumar_outcome hekthumar_load_span(const uint8_t *snapshot, size_t snapshot_l
 /* Stores all of `bytes`, 1 to 4,096 of them. */
 hekthumar_outcome hekthumar_store_span(const uint8_t *snapshot, size_t snapshot_len, uint8_t *control, size_t control_len, uint8_t *pool,
                                        size_t pool_len, uint64_t address, const uint8_t *bytes, size_t bytes_len);
+
+/* A record's read is one span load of its bytes, its write one span store: refused for the same reasons in the same order, all or nothing, at
+ * any address, aligned or not. A returned value's discriminant other than 0 and 1 is 14, read or written, after every other refusal. */
+hekthumar_read_buffer_answer hekthumar_read_buffer(const uint8_t *snapshot, size_t snapshot_len, const uint8_t *control, size_t control_len,
+                                                   const uint8_t *pool, size_t pool_len, uint64_t address);
+hekthumar_read_event_answer hekthumar_read_event(const uint8_t *snapshot, size_t snapshot_len, const uint8_t *control, size_t control_len,
+                                                 const uint8_t *pool, size_t pool_len, uint64_t address);
+hekthumar_read_location_answer hekthumar_read_location(const uint8_t *snapshot, size_t snapshot_len, const uint8_t *control,
+                                                       size_t control_len, const uint8_t *pool, size_t pool_len, uint64_t address);
+hekthumar_read_call_record_answer hekthumar_read_call_record(const uint8_t *snapshot, size_t snapshot_len, const uint8_t *control,
+                                                             size_t control_len, const uint8_t *pool, size_t pool_len, uint64_t address);
+hekthumar_read_returned_answer hekthumar_read_returned(const uint8_t *snapshot, size_t snapshot_len, const uint8_t *control,
+                                                       size_t control_len, const uint8_t *pool, size_t pool_len, uint64_t address);
+hekthumar_outcome hekthumar_write_buffer(const uint8_t *snapshot, size_t snapshot_len, uint8_t *control, size_t control_len, uint8_t *pool,
+                                         size_t pool_len, uint64_t address, hekthumar_buffer record);
+hekthumar_outcome hekthumar_write_event(const uint8_t *snapshot, size_t snapshot_len, uint8_t *control, size_t control_len, uint8_t *pool,
+                                        size_t pool_len, uint64_t address, hekthumar_event record);
+hekthumar_outcome hekthumar_write_location(const uint8_t *snapshot, size_t snapshot_len, uint8_t *control, size_t control_len,
+                                           uint8_t *pool, size_t pool_len, uint64_t address, hekthumar_location record);
+hekthumar_outcome hekthumar_write_call_record(const uint8_t *snapshot, size_t snapshot_len, uint8_t *control, size_t control_len,
+                                              uint8_t *pool, size_t pool_len, uint64_t address, hekthumar_call_record record);
+hekthumar_outcome hekthumar_write_returned(const uint8_t *snapshot, size_t snapshot_len, uint8_t *control, size_t control_len,
+                                           uint8_t *pool, size_t pool_len, uint64_t address, hekthumar_returned record);
 
 /* Calls a program with 256 bytes of registers. Refusals: 1, 2, 9, 4, 1, 4. */
 uint8_t hekthumar_call(const uint8_t *snapshot, size_t snapshot_len, uint8_t *control, size_t control_len, const uint8_t *pool,

@@ -1,4 +1,4 @@
-/* The accounts of the example and the three runs over them. */
+/* The accounts of the example and the four runs over them. */
 #ifndef ACCOUNTS_H
 #define ACCOUNTS_H
 
@@ -13,6 +13,7 @@ bool begin_guest(struct buffers *b, struct bytes guest, struct bytes transaction
 /* Each runs its guest and prints what came of it; true if it is as it must be. */
 bool run_bookings(struct bytes guest, FILE *trace);
 bool run_weighing(struct bytes guest, FILE *trace);
+bool run_announcing(struct bytes guest, FILE *trace);
 bool run_misbehaviours(struct bytes guest, FILE *trace);
 
 #endif

@@ -1,6 +1,7 @@
 #include "machine.h"
 
 #include "calls.h"
+#include "events.h"
 #include "guest/layout.h"
 #include "routing.h"
 
@@ -56,6 +57,7 @@ static bool on_invalid(uc_engine *engine, uc_mem_type type, uint64_t address, in
 }
 
 static void serve(struct machine *m, uint64_t service, const uint64_t *a) {
+    uint64_t result;
     switch (service) {
     case SERVICE_END:
         m->status = a[0];
@@ -65,6 +67,10 @@ static void serve(struct machine *m, uint64_t service, const uint64_t *a) {
     case SERVICE_CALL: route_call(m); break;
     case SERVICE_RETURN: route_return(m); break;
     case SERVICE_HEAP: route_heap(m, a[0]); break;
+    case SERVICE_EMIT:
+        result = route_emit(m, a[0], a[1], a[2]);
+        uc_reg_write(m->engine, UC_RISCV_REG_A0, &result);
+        break;
     default: machine_fault(m, "the guest asks for an unknown service");
     }
 }

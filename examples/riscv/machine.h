@@ -16,8 +16,10 @@
  *   spans           A service: one hekthumar_load_span and one hekthumar_store_span for each call of the guest.
  *   calls           Services: hekthumar_call, hekthumar_return, and hekthumar_resize for the heap. The callee is a function of the same
  *                   program; calls.h says what becomes of its registers and its stack.
+ *   events          A service: hekthumar_read_event and a span load for each of its two buffers; for the answer hekthumar_read_buffer, a
+ *                   span store and hekthumar_write_returned. A refusal of one of these is told to the guest, which goes on.
  *
- * The first refusal stops the guest; nothing reaches the library after it.
+ * The first refusal of another call stops the guest; nothing reaches the library after it.
  */
 #ifndef MACHINE_H
 #define MACHINE_H
@@ -42,6 +44,7 @@ struct machine {
     FILE *trace; /* gets a line for each access, unless NULL */
     uc_engine *engine;
     uint64_t steps;
+    unsigned events;      /* that the host has taken from the guest */
     uint64_t pc;          /* of the instruction under way */
     struct access access; /* the one under way, or the one refused */
     bool stopped;

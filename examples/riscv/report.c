@@ -2,7 +2,7 @@
 
 #include <inttypes.h>
 
-static const char *const sentences[14] = {
+static const char *const sentences[15] = {
     "done",
     "a buffer, header or entry is not valid",
     "unknown kind or wrong length",
@@ -17,12 +17,17 @@ static const char *const sentences[14] = {
     "output too short",
     "bad change list",
     "a byte absent",
+    "a returned value's discriminant",
 };
 
 enum { ABSENT = 13 };
 
+const char *sentence(uint8_t number) {
+    return sentences[number];
+}
+
 void print_refusal(const struct machine *m) {
-    printf("  refused with %u, %s", (unsigned)m->number, sentences[m->number]);
+    printf("  refused with %u, %s", (unsigned)m->number, sentence(m->number));
     if (m->number == ABSENT) printf(": byte %u of %" PRIu64, (unsigned)m->distance, m->access.size);
     putchar('\n');
     printf("  %s of %" PRIu64 " bytes at 0x%012" PRIx64 ", pc 0x%012" PRIx64 "\n", kind_names[m->access.kind], m->access.size,
@@ -33,7 +38,7 @@ void print_refusal(const struct machine *m) {
 int print_changes(struct buffers *b, uint8_t *list) {
     uint8_t number = hekthumar_change_list(LENT(b), list, CHANGES_MAX);
     if (number != 0) {
-        printf("  change list refused with %u, %s\n", (unsigned)number, sentences[number]);
+        printf("  change list refused with %u, %s\n", (unsigned)number, sentence(number));
         return -1;
     }
     int pages = (int)get_number(list, 4);

@@ -6,6 +6,9 @@
 
 enum { CHANGES_MAX = 16 + 4104 * FRAMES };
 
+/* What a number says. */
+const char *sentence(uint8_t number);
+
 /* Number, sentence, which byte is absent, kind, address and pc. */
 void print_refusal(const struct machine *m);
 

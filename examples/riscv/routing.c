@@ -20,26 +20,30 @@ void machine_fault(struct machine *m, const char *why) {
 /* The buffers before the call under way. */
 static struct buffers before;
 
-static void remember(const struct machine *m) {
+void remember(const struct machine *m) {
     memcpy(&before, m->buffers, sizeof before);
+}
+
+uint8_t told(struct machine *m, struct access access, hekthumar_outcome outcome) {
+    if (m->trace != NULL)
+        fprintf(m->trace, "pc %08" PRIx64 "  %-10s %013" PRIx64 "  %" PRIu64 "  value %" PRIx64 "  number %u\n", m->pc,
+                kind_names[access.kind], access.address, access.size, access.value, (unsigned)outcome.number);
+    if (outcome.number != 0 && memcmp(&before, m->buffers, sizeof before) != 0)
+        machine_fault(m, "a refused call has changed a byte lent to it");
+    return outcome.number;
 }
 
 static hekthumar_outcome outcome_of(hekthumar_value got) {
     return (hekthumar_outcome){got.distance, got.number};
 }
 
-/* Every answer of the library to the guest passes here. */
+/* Every answer to an access of the guest passes here. */
 static bool answered(struct machine *m, struct access access, hekthumar_outcome outcome) {
     m->access = access;
     m->number = outcome.number;
     m->distance = outcome.distance;
-    if (m->trace != NULL)
-        fprintf(m->trace, "pc %08" PRIx64 "  %-10s %013" PRIx64 "  %" PRIu64 "  value %" PRIx64 "  number %u\n", m->pc,
-                kind_names[access.kind], access.address, access.size, access.value, (unsigned)outcome.number);
-    if (outcome.number == 0) return true;
-    machine_stop(m);
-    if (memcmp(&before, m->buffers, sizeof before) != 0) machine_fault(m, "a refused call has changed a byte lent to it");
-    return false;
+    if (told(m, access, outcome) != 0) machine_stop(m);
+    return outcome.number == 0;
 }
 
 bool route_load(struct machine *m, uint64_t address, size_t size) {

@@ -9,6 +9,10 @@ void machine_stop(struct machine *m);
 /* Stops a run that says nothing about the guest. */
 void machine_fault(struct machine *m, const char *why);
 
+/* Before a call to the library and after it: a line of trace, and a fault if a refused call has changed a byte lent to it. The number. */
+void remember(const struct machine *m);
+uint8_t told(struct machine *m, struct access access, hekthumar_outcome outcome);
+
 /* One access of the guest, one call; true if it is accepted. A refusal stops the machine. */
 bool route_load(struct machine *m, uint64_t address, size_t size);
 bool route_fetch(struct machine *m, uint64_t address, size_t size);

@@ -1,6 +1,7 @@
 //! How the commands and the statements are written.
 
 use crate::script::forms::FORMS;
+use crate::script::Layout;
 use hekthumar::Refusal;
 use std::fmt::Write;
 
@@ -34,6 +35,10 @@ pub fn whole() -> String {
     for form in &FORMS {
         let _ = writeln!(text, "  {:<30} {}", format!("{} {}", form.name, form.words), form.about);
     }
+    text.push_str(RECORDS);
+    for record in Layout::ALL {
+        let _ = writeln!(text, "  {:<11} {}  {}", record.name(), record.bytes(), record.fields());
+    }
     text.push_str(EXPECT);
     for form in FORMS.iter().filter(|form| !form.answer.is_empty()) {
         let _ = writeln!(text, "  {:<12} => {}", form.name, form.answer);
@@ -55,6 +60,11 @@ const SCRIPT: &str = "
 A script has one statement to a line. Blank lines and what follows # are skipped. Numbers are
 decimal, or hexadecimal after 0x, with _ between digits where it helps. Nothing is carried out
 unless every line can be read.
+";
+
+const RECORDS: &str = "
+A RECORD, its bytes in memory and its FIELDs in order. A pointer is an address and is not checked; a
+DISCRIMINANT is 0 (Ok) or 1 (Err), and any other is refused with 14.
 ";
 
 const EXPECT: &str = "

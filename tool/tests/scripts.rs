@@ -5,7 +5,7 @@ mod data;
 
 use common::folder::Folder;
 use common::tool::{self, Came};
-use data::bytes::{patched, with_word};
+use data::bytes::{patched, with_word, words};
 use data::control::{control, entry, record, UNUSED};
 use data::layout::{account_at, control_length, COPY, HEAP, LENGTH, PAGE, STACK};
 use data::{list, snapshot};
@@ -34,6 +34,7 @@ fn scripts() -> Vec<Script> {
         over("contexts", snapshot::trials(512, &snapshot::slots())),
         begin(),
         heap(),
+        records(),
         inspect(),
         bookings(),
     ]
@@ -64,7 +65,7 @@ fn heap() -> Script {
         ("outside-control", held(0, [page(9, 5), UNUSED, entry(STACK, 0, 0, 0), UNUSED])),
     ];
     let pools =
-        [("left-pool", heap_pool([[11, 0x07_0000_001000], [33, 0], [0, 0]])), ("nested-pool", heap_pool([[77, 0], [99, 98], [97, 0]]))];
+        [("left-pool", heap_pool([[11, 0x0700_0000_1000], [33, 0], [0, 0]])), ("nested-pool", heap_pool([[77, 0], [99, 98], [97, 0]]))];
     let files = vec![("snapshot", snapshot::trials(1, &snapshot::slots()))];
     Script { name: "heap", files, left: controls.into_iter().chain(pools).collect() }
 }
@@ -74,6 +75,29 @@ fn heap_pool(numbers: [[u64; 2]; 3]) -> Vec<u8> {
     let copy = patched(&snapshot::slots()[..PAGE], 0, &[0xee]);
     let pool = patched(&[0; 6 * PAGE], PAGE, &copy);
     numbers.iter().zip(2..).fold(pool, |pool, (cell, frame)| patched(&pool, frame * PAGE, &cell.map(u64::to_le_bytes).concat()))
+}
+
+/// What the script writes, field after field, and nothing of what is refused.
+fn records() -> Script {
+    let longs = |numbers: &[u64]| numbers.iter().flat_map(|number| number.to_le_bytes()).collect::<Vec<u8>>();
+    let page = |page: &[u8], parts: &[(usize, Vec<u8>)]| parts.iter().fold(page.to_vec(), |page, (at, bytes)| patched(&page, *at, bytes));
+    let location = [longs(&[0x0100_0000, 9]), words([u32::MAX as usize, 16_909_060])].concat();
+    let buffer = (3, longs(&[0x0700_0000_0200, 32]));
+    let event = (0x41, longs(&[0x0300_0004, 6, 0x1_0700_0000_0000, u64::MAX]));
+    let around = [(0, vec![0xee; 21]), (0x40, vec![0xee; 35])];
+    let returned = [(0x123, longs(&[1, u64::MAX - 1, 0])), (0x300, longs(&[1]))];
+    let call = (0x7d1, longs(&[1, 2, 0x0300_0000, 8, 0x0700_0000_0200, 3]));
+
+    let stack = page(&[0; PAGE], &[(7, location)]);
+    let heap = page(&[0; PAGE], &[around.as_slice(), &[buffer, event], &returned].concat());
+    let copy = page(&snapshot::slots()[..PAGE], &[call, (0, longs(&[1, 7, 7]))]);
+    let frames = [entry(STACK, 0, 0, 4_095), entry(HEAP, 0, 0, 0), entry(COPY, 0, 5, 0), entry(HEAP, 0, 0, 1)];
+    let left = vec![
+        ("records-control", control(&[record(0, 1, 2, &[])], &frames)),
+        ("records-list", list::list(&[(5, 0, &copy)])),
+        ("records-pool", [stack, heap, copy, vec![0; PAGE]].concat()),
+    ];
+    Script { name: "records", files: vec![("snapshot", snapshot::trials(1, &snapshot::slots()))], left }
 }
 
 /// Account 3 has no data, so that its entry is valid until the script damages it.

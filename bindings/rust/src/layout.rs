@@ -63,6 +63,21 @@ pub const LIST_HEADER: usize = 16;
 /// Bytes of a page's entry in a change list.
 pub const LIST_ENTRY: usize = 8;
 
+/// Bytes of a [`Buffer`](crate::Buffer) in a program's memory: two numbers of 64 bits.
+pub const BUFFER: usize = 16;
+
+/// Bytes of an [`Event`](crate::Event): two buffers.
+pub const EVENT: usize = 2 * BUFFER;
+
+/// Bytes of a [`Location`](crate::Location): a buffer and two numbers of 32 bits.
+pub const LOCATION: usize = BUFFER + 8;
+
+/// Bytes of a [`CallRecord`](crate::CallRecord): three buffers.
+pub const CALL_RECORD: usize = 3 * BUFFER;
+
+/// Bytes of a [`Returned`](crate::Returned): a number of 64 bits and a buffer.
+pub const RETURNED: usize = 8 + BUFFER;
+
 /// Length of the control block for a number of frames, at most [`MAX_FRAMES`].
 pub const fn control_len(frames: usize) -> usize {
     FRAME_TABLE + FRAME_ENTRY * frames

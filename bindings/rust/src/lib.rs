@@ -16,6 +16,8 @@
 //!
 #![doc = concat!("```\n", include_str!("../examples/host.rs"), "```")]
 //!
+//! A program passes data to its host by [records](Buffer) in its memory: [`Memory`] reads and writes each as a whole.
+//!
 //! Every call accepts every input and answers. What it does not allow is an `Err` with a [`Refusal`], and then no lent byte has
 //! changed. All numbers in memory are little-endian.
 
@@ -29,6 +31,7 @@ pub mod inspect;
 pub mod layout;
 mod memory;
 mod place;
+mod records;
 mod refusal;
 mod segment;
 mod snapshot;
@@ -42,6 +45,7 @@ pub use changes::{apply, Change, ChangeList};
 pub use layout::{change_list_len, control_len, pool_len, PAGE};
 pub use memory::{Memory, Registers};
 pub use place::{Kind, PagePlace, Place, Region};
+pub use records::{Buffer, CallRecord, Event, Location, Returned};
 pub use refusal::Refusal;
 pub use segment::Segment;
 pub use snapshot::{account_data, BuildError, SnapshotBuilder};

@@ -16,7 +16,8 @@ pub type Registers = [u8; 256];
 /// 48 bits, there is no such segment or account, the account's entry is not valid, the offset is misaligned, the segment or account
 /// forbids it, it crosses a page, a byte is not present, the stack or heap page has no frame or was added at a lower call depth, no frame
 /// is free.
-/// Where a byte is not present, [`Refusal::Absent`] says how many bytes of the access come before it.
+/// Where a byte is not present, [`Refusal::Absent`] says how many bytes of the access come before it. The read of a
+/// [returned value](crate::Returned) is last refused for its discriminant.
 ///
 /// ```
 /// use hekthumar::*;
@@ -55,6 +56,8 @@ macro_rules! lend {
         unsafe { sys::$function(snapshot, snapshot_len, control, control_len, pool, pool_len $(, $argument)*) }
     }};
 }
+
+mod records;
 
 impl<'a> Memory<'a> {
     /// Takes the buffers, untested. `control` and `pool` may hold anything before the first begin.

@@ -24,7 +24,7 @@ pub enum Refusal {
     NoSegment,
     /// The offset is not a multiple of the size.
     Misaligned,
-    /// The span goes past a multiple of 4,096.
+    /// The span or record goes past a multiple of 4,096.
     CrossesPage,
     /// The segment, the account's flag or owner, or the call depth at which the page was added forbids the access.
     NotPermitted,
@@ -43,11 +43,13 @@ pub enum Refusal {
         /// How many bytes of the access come before it; 0 for a page view.
         distance: u16,
     },
+    /// The discriminant of a [returned value](crate::Returned) is neither 0 nor 1.
+    BadRecord,
 }
 
 impl Refusal {
     /// Every refusal, in the order of the numbers; [`Refusal::Absent`] with the distance 0.
-    pub const ALL: [Refusal; 13] = [
+    pub const ALL: [Refusal; 14] = [
         Refusal::Invalid,
         Refusal::BadRequest,
         Refusal::OutOfRange,
@@ -61,9 +63,10 @@ impl Refusal {
         Refusal::OutputTooShort,
         Refusal::BadChangeList,
         Refusal::Absent { distance: 0 },
+        Refusal::BadRecord,
     ];
 
-    /// The number, 1 to 13, that the C interface gives back.
+    /// The number, 1 to 14, that the C interface gives back.
     pub const fn number(self) -> u8 {
         match self {
             Refusal::Invalid => 1,
@@ -79,10 +82,11 @@ impl Refusal {
             Refusal::OutputTooShort => 11,
             Refusal::BadChangeList => 12,
             Refusal::Absent { .. } => 13,
+            Refusal::BadRecord => 14,
         }
     }
 
-    /// The refusal with this number, 13 with the distance 0; none for 0, which is success, and above 13.
+    /// The refusal with this number, 13 with the distance 0; none for 0, which is success, and above 14.
     pub fn from_number(number: u8) -> Option<Refusal> {
         Self::ALL.into_iter().find(|refusal| refusal.number() == number)
     }
@@ -103,6 +107,7 @@ impl Refusal {
             Refusal::OutputTooShort => "the output buffer is too short for the change list",
             Refusal::BadChangeList => "the change list is malformed or does not match the account's data",
             Refusal::Absent { .. } => "a byte asked for is not present",
+            Refusal::BadRecord => "the returned value's discriminant is neither 0 nor 1",
         }
     }
 
@@ -139,7 +144,7 @@ impl std::error::Error for Refusal {}
 pub(crate) fn check(number: u8) -> Result<(), Refusal> {
     match number {
         0 => Ok(()),
-        _ => Err(Refusal::from_number(number).expect("the library answers 0 to 13")),
+        _ => Err(Refusal::from_number(number).expect("the library answers 0 to 14")),
     }
 }
 

@@ -28,7 +28,7 @@ pub struct Value {
     pub number: u8,
 }
 
-/// What a store, a span load or a span store answers.
+/// What a store, a span load, a span store or a record's write answers.
 #[repr(C)]
 #[derive(Clone, Copy, Debug, PartialEq, Eq)]
 pub struct Outcome {
@@ -55,6 +55,54 @@ pub struct View {
     pub start: u64,
     pub length: u64,
     pub holder: u8,
+    pub number: u8,
+}
+
+/// A buffer descriptor.
+#[repr(C)]
+#[derive(Clone, Copy, Debug, PartialEq, Eq)]
+pub struct Buffer {
+    pub pointer: u64,
+    pub length: u64,
+}
+
+#[repr(C)]
+#[derive(Clone, Copy, Debug, PartialEq, Eq)]
+pub struct Event {
+    pub kind: Buffer,
+    pub data: Buffer,
+}
+
+#[repr(C)]
+#[derive(Clone, Copy, Debug, PartialEq, Eq)]
+pub struct Location {
+    pub file: Buffer,
+    pub line: u32,
+    pub column: u32,
+}
+
+#[repr(C)]
+#[derive(Clone, Copy, Debug, PartialEq, Eq)]
+pub struct CallRecord {
+    pub context_id: Buffer,
+    pub function: Buffer,
+    pub params: Buffer,
+}
+
+/// A returned value; any discriminant can be given.
+#[repr(C)]
+#[derive(Clone, Copy, Debug, PartialEq, Eq)]
+pub struct Returned {
+    pub discriminant: u64,
+    pub buffer: Buffer,
+}
+
+/// What a record's read answers: `hekthumar_read_buffer_answer` and so on.
+#[repr(C)]
+#[derive(Clone, Copy, Debug, PartialEq, Eq)]
+pub struct ReadAnswer<T> {
+    pub record: T,
+    pub distance: u16,
     pub number: u8,
 }
 
@@ -197,4 +245,41 @@ extern "C" {
         account: u16,
         page: u16,
     ) -> View;
+}
+
+/// The read and the write of each record.
+macro_rules! record_functions {
+    ($($record:ident: $read:ident, $write:ident;)*) => {
+        extern "C" {
+            $(
+                pub fn $read(
+                    snapshot: *const u8,
+                    snapshot_len: usize,
+                    control: *const u8,
+                    control_len: usize,
+                    pool: *const u8,
+                    pool_len: usize,
+                    address: u64,
+                ) -> ReadAnswer<$record>;
+                pub fn $write(
+                    snapshot: *const u8,
+                    snapshot_len: usize,
+                    control: *mut u8,
+                    control_len: usize,
+                    pool: *mut u8,
+                    pool_len: usize,
+                    address: u64,
+                    record: $record,
+                ) -> Outcome;
+            )*
+        }
+    };
+}
+
+record_functions! {
+    Buffer: hekthumar_read_buffer, hekthumar_write_buffer;
+    Event: hekthumar_read_event, hekthumar_write_event;
+    Location: hekthumar_read_location, hekthumar_write_location;
+    CallRecord: hekthumar_read_call_record, hekthumar_write_call_record;
+    Returned: hekthumar_read_returned, hekthumar_write_returned;
 }

@@ -156,15 +156,16 @@ fn refusals_of_other_calls() {
 #[test]
 fn refusals_have_their_numbers() {
     let numbers = Refusal::ALL.map(Refusal::number);
-    assert_eq!(numbers, [1, 2, 3, 4, 5, 6, 7, 8, 9, 10, 11, 12, 13]);
+    assert_eq!(numbers, [1, 2, 3, 4, 5, 6, 7, 8, 9, 10, 11, 12, 13, 14]);
     assert_eq!(numbers.map(Refusal::from_number), Refusal::ALL.map(Some));
-    assert_eq!([0, 14, 255].map(Refusal::from_number), [None; 3]);
+    assert_eq!([0, 15, 255].map(Refusal::from_number), [None; 3]);
     assert_eq!(Refusal::CrossesPage.to_string(), "the access crosses a page boundary (refusal 6)");
     let absent = Refusal::Absent { distance: 5 };
     assert_eq!(absent.number(), 13);
     assert_eq!(absent.to_string(), "byte 5 of the access is past the end (refusal 13)");
     assert_eq!(absent.explain(8), "byte 5 of 8 is past the end");
     assert_eq!(Refusal::CrossesPage.explain(8), "the access crosses a page boundary");
+    assert_eq!(Refusal::BadRecord.to_string(), "the returned value's discriminant is neither 0 nor 1 (refusal 14)");
 }
 
 #[test]

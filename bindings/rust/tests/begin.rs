@@ -34,14 +34,6 @@ impl Host {
     fn begin_with_pages(&mut self, program: u16, pages: usize) -> Result<(), Refusal> {
         self.unless_refused(|memory| memory.begin_with_pages(program, pages))
     }
-
-    /// A call that changes no byte where it is refused.
-    fn unless_refused(&mut self, call: impl FnOnce(&mut Memory) -> Result<(), Refusal>) -> Result<(), Refusal> {
-        let before = self.clone();
-        let answer = call(&mut self.memory());
-        assert!(answer.is_ok() || *self == before, "{answer:?}");
-        answer
-    }
 }
 
 /// The control block of a program just begun: header, record 1, and the entry of frame 0 where it is the stack's.

@@ -75,3 +75,18 @@ pub fn store_span(s: &[u8], c: &mut [u8], pool: &mut [u8], a: Address, bytes: &[
     copy(pool, at, bytes, 0, bytes.len());
     outcome_of(spanned)
 }
+
+// Stores a record's bytes, as `store_span` does. That has one caller and is compiled into it; with the five writes of records it would be called.
+pub fn store_record(s: &[u8], c: &mut [u8], pool: &mut [u8], a: Address, bytes: &[u8]) -> Outcome
+    ensures { λ r. ⌜ r ≡ storeOutcome (now (s .entry)) (now (c .entry)) (now (pool .entry)) kindStoreSpan (a .0) (length (now (bytes .entry))) ⌝ }
+    ensures { λ _. ⌜ now (c .exit) ≡ storeControl (now (s .entry)) (now (c .entry)) (now (pool .entry)) kindStoreSpan (a .0) (length (now (bytes .entry))) ⌝ }
+    ensures { λ _. ⌜ now (pool .exit) ≡ storePool (now (s .entry)) (now (c .entry)) (now (pool .entry)) kindStoreSpan (a .0) (now (bytes .entry)) ⌝ }
+{
+    let recorded = translate(s, c, pool, STORE_SPAN, a, bytes.len());
+    let Translation::Allowed(place) = recorded else {
+        return outcome_of(recorded);
+    };
+    let start = make_writable(s, c, pool, place);
+    copy(pool, start, bytes, 0, bytes.len());
+    outcome_of(recorded)
+}

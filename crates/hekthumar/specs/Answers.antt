@@ -14,6 +14,13 @@ use Rattle.translate.specs.declared.place.Place.the-variants.{InSnapshot, InCon
 use Rattle.translate.specs.declared.place.Translation.{Translation}
 use Rattle.translate.specs.declared.place.Translation.the-variants.{Allowed, Refused}
 use Rattle.access.specs.declared.loads.Value.{Value}
+use Rattle.records.specs.Layout.{decoded, bufferLayout, eventLayout, locationLayout, callRecordLayout, returnedLayout}
+use Rattle.records.specs.Records.{bufferOf, eventOf, locationOf, callRecordOf, returnedOf}
+use Rattle.records.specs.declared.reads.BufferRead.{BufferRead}
+use Rattle.records.specs.declared.reads.EventRead.{EventRead}
+use Rattle.records.specs.declared.reads.LocationRead.{LocationRead}
+use Rattle.records.specs.declared.reads.CallRecordRead.{CallRecordRead}
+use Rattle.records.specs.declared.reads.ReturnedRead.{ReturnedRead}
 use Rattle.view.specs.declared.View.{View}
 use Rattle.view.specs.declared.View.the-variants as view
 use Rattle.hekthumar.specs.Steps.{Step}
@@ -74,3 +81,30 @@ viewAnswer (view.Refused r) = record { start = 0; length = 0; holder = 0; number
 -- the bytes of the part that a view's answer names
 abbrev pub viewed : List ℕ → List ℕ → ViewAnswer → List ℕ
 viewed s p v = pick (eqb (v .holder) 1) (bytesAt (v .length) s (v .start)) (pick (eqb (v .holder) 2) (bytesAt (v .length) p (v .start)) [])
+
+-- ---- a record, with the distance and the number of its access: the one that the step's bytes spell
+
+-- of a buffer descriptor
+abbrev pub stepBuffer : Step → BufferRead
+stepBuffer x =
+    record { «record» = bufferOf (decoded (bufferLayout .widths) (x .answer .bytes) 0); distance = x .answer .distance; number = x .answer .number }
+
+-- of an event
+abbrev pub stepEvent : Step → EventRead
+stepEvent x =
+    record { «record» = eventOf (decoded (eventLayout .widths) (x .answer .bytes) 0); distance = x .answer .distance; number = x .answer .number }
+
+-- of a location
+abbrev pub stepLocation : Step → LocationRead
+stepLocation x =
+    record { «record» = locationOf (decoded (locationLayout .widths) (x .answer .bytes) 0); distance = x .answer .distance; number = x .answer .number }
+
+-- of a call record
+abbrev pub stepCallRecord : Step → CallRecordRead
+stepCallRecord x =
+    record { «record» = callRecordOf (decoded (callRecordLayout .widths) (x .answer .bytes) 0); distance = x .answer .distance; number = x .answer .number }
+
+-- of a returned value
+abbrev pub stepReturned : Step → ReturnedRead
+stepReturned x =
+    record { «record» = returnedOf (decoded (returnedLayout .widths) (x .answer .bytes) 0); distance = x .answer .distance; number = x .answer .number }

@@ -12,6 +12,8 @@ use Rattle.translate.specs.Translate.{translateOf}
 use Rattle.translate.specs.declared.place.Outcome.{Outcome}
 use Rattle.access.specs.Loads.{loadOf, fetchOf, loadSpanOutcome, loadSpanOut}
 use Rattle.access.specs.Stores.{storeOutcome, storeControl, storePool}
+use Rattle.records.specs.Layout.{Layout}
+use Rattle.records.specs.Calls.{readOutcome, readBytes, writeOutcome, writeControl, writePool}
 use Rattle.invoke.specs.declared.begin.Start.{Start}
 use Rattle.invoke.specs.Invoke.{beginNumber, beginControl, beginPool, callNumber, callControl, returnNumber, returnControl, returnOut}
 use Rattle.regions.specs.Resize.{resizeOf}
@@ -22,6 +24,7 @@ use lib.ListN.{length}
 -- "begin, translation, load, store, fetch, span load, span store, call, return, resize, change list, page view", each with its
 -- arguments but the three buffers. A lent buffer is given by the bytes that it brings: it "may be lent again and bring any bytes".
 -- "where demand 3 says begin, it means either": what a begin is given has the number of its stack pages.
+-- A record's read and its write, of every layout: document 02, "Five", "each is that one span load or store".
 pub data Call : Type 0 where
   begin : Start → Call
   translation : (kind address size : ℕ) → Call
@@ -30,6 +33,8 @@ pub data Call : Type 0 where
   fetch : (address size : ℕ) → Call
   load-span : (address : ℕ) (out : List ℕ) → Call
   store-span : (address : ℕ) (bytes : List ℕ) → Call
+  read-record : Layout → (address : ℕ) → Call
+  write-record : Layout → (address : ℕ) (fields : List ℕ) → Call
   call : Account → (registers : List ℕ) → Call
   return : (registers : List ℕ) → Call
   resize : (region pages : ℕ) → Call
@@ -40,7 +45,7 @@ pub data Call : Type 0 where
 abbrev pub beginWith : (program pages : ℕ) → Call
 beginWith program pages = begin (record { program = record { 0 = program }; pages = pages })
 
--- what a call gives: its number, an access's distance, its value, and the bytes of its lent buffer afterwards or of its view
+-- what a call gives: its number, an access's distance, its value, and the bytes of its lent buffer afterwards, of its view or of its record
 pub record Answer : Type 0 where
   pub number : ℕ
   pub distance : ℕ
@@ -81,6 +86,11 @@ stepOf s b (load-span a out) =
 stepOf s b (store-span a bytes) =
     accesses (buffers (storeControl s (b .control) (b .pool) kindStoreSpan a (length bytes)) (storePool s (b .control) (b .pool) kindStoreSpan a bytes))
     (storeOutcome s (b .control) (b .pool) kindStoreSpan a (length bytes))
+    0 []
+stepOf s b (read-record l a) = accesses b (readOutcome s (b .control) (b .pool) l a) 0 (readBytes s (b .control) (b .pool) l a)
+stepOf s b (write-record l a fields) =
+    accesses (buffers (writeControl s (b .control) (b .pool) l a fields) (writePool s (b .control) (b .pool) l a fields))
+    (writeOutcome s (b .control) (b .pool) l a fields)
     0 []
 stepOf s b (call a registers) =
     answers (buffers (callControl s (b .control) (b .pool) a registers) (b .pool)) (callNumber s (b .control) (b .pool) a registers) []

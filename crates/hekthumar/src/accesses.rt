@@ -129,7 +129,7 @@ fn value_of(v: Value) -> ValueAnswer
 }
 
 // What an access without a value answers.
-fn outcome_answer(o: Outcome) -> OutcomeAnswer
+pub fn outcome_answer(o: Outcome) -> OutcomeAnswer
     requires { ⌜ o .distance < pageSize ⌝ }
     ensures { λ r. ⌜ r ≡ outcomeAnswer o ⌝ }
 {

@@ -4,3 +4,4 @@ pub mod accesses;
 pub mod addresses;
 pub mod changes_of;
 pub mod invocations;
+pub mod records_of;

@@ -6,6 +6,7 @@ use mathlib.Core.Bool.{true}
 use mathlib.Core.List.{List, [], _∷_}
 use native.Mathlib.Omega.{arith}
 use lib.ListN.{length}
+use Rattle.choice.proofs.Tests.{by-test}
 use Rattle.refusal.proofs.Checks.{check-passed}
 use Rattle.control.proofs.Facts.{buffers-facts}
 use Rattle.control.specs.Buffers.{Buffers}
@@ -26,7 +27,9 @@ use Rattle.lifecycle.specs.Regions.{Rights, framesWith}
 use Rattle.lifecycle.proofs.After.{begun-right, begin-right, call-right, return-right, resize-right}
 use Rattle.lifecycle.proofs.Copied.{copied-right}
 use Rattle.lifecycle.proofs.Counted.{in-use-pages}
-use Rattle.hekthumar.specs.Steps.{Call, begin, translation, load, store, fetch, load-span, store-span, call, return, resize, change-list, page-view, stepOf}
+use Rattle.records.specs.Layout.{encoded, validFields}
+use Rattle.records.specs.Calls.{writeControl}
+use Rattle.hekthumar.specs.Steps.{Call, begin, translation, load, store, fetch, load-span, store-span, read-record, write-record, call, return, resize, change-list, page-view, stepOf}
 use Rattle.history.specs.Calls.{run}
 use Rattle.history.specs.Calls as calls
 use Rattle.history.specs.Replay.{started, replay, feed}
@@ -56,7 +59,7 @@ module _ (s c p : List ℕ) (kind a n : ℕ) (h : Rights c) where
 
 -- every call keeps the invariant of stack and heap
 keep-rights : (s : List ℕ) (b : Buffers) → Rights (b .control) → (k : Call) → Rights (stepOf s b k .after .control)
-unfolding stepOf storeControl
+unfolding stepOf storeControl writeControl
 keep-rights s b h (begin x) = begin-right s (b .control) (b .pool) x h
 keep-rights s b h (translation kind a n) = h
 keep-rights s b h (load a n) = h
@@ -65,6 +68,12 @@ keep-rights s b h (fetch a n) = h
 keep-rights s b h (load-span a out) = h
 keep-rights s b h (store-span a bytes) =
     stored s (b .control) (b .pool) kindStoreSpan a (length bytes) h (translateOf s (b .control) (b .pool) kindStoreSpan a (length bytes)) refl
+keep-rights s b h (read-record l a) = h
+keep-rights s b h (write-record l a fields) =
+    let n : ℕ = length (encoded (l .widths) fields) in
+    by-test (validFields l fields)
+    (λ v. rw v (stored s (b .control) (b .pool) kindStoreSpan a n h (translateOf s (b .control) (b .pool) kindStoreSpan a n) refl))
+    (λ v. rw v h)
 keep-rights s b h (call a registers) = call-right s (b .control) (b .pool) a registers h
 keep-rights s b h (return registers) = return-right s (b .control) (b .pool) registers h
 keep-rights s b h (resize region n) = resize-right s (b .control) (b .pool) region n h

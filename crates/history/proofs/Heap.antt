@@ -11,7 +11,6 @@ use Rattle.choice.specs.Choice.{pick, either}
 use Rattle.choice.proofs.Tests.{by-test}
 use Rattle.refusal.specs.declared.Check.{Check}
 use Rattle.refusal.specs.declared.Check.the-variants.{Pass, Stop}
-use Rattle.refusal.specs.declared.Refusal.{Refusal}
 use Rattle.refusal.specs.declared.Refusal.the-variants.{NoSegment, NotPermitted}
 use Rattle.refusal.proofs.Checks.{need-then}
 use Rattle.address.specs.Address.{typeOf, indexOf, offsetOf}
@@ -38,6 +37,7 @@ use Rattle.translate.specs.declared.place.Place.{Place}
 use Rattle.translate.specs.declared.place.Place.the-variants.{InPool}
 use Rattle.translate.specs.declared.place.Translation.{Translation}
 use Rattle.translate.specs.declared.place.Translation.the-variants.{Allowed, Refused}
+use Rattle.translate.proofs.Answered.{refused-not}
 use Rattle.translate.proofs.Accepted.{requestOf}
 use Rattle.invoke.specs.Invoke.{returnCheck, returned}
 use Rattle.invoke.proofs.Accepted.{ReturnFacts, return-facts}
@@ -72,10 +72,6 @@ heap-translated : (s c p : List ℕ) (kind a n : ℕ) → typeOf a ≡ 7
 unfolding translateOf inSegment inRow rowCheck concernedValid owned endOf placeOf sourceOf placeIn
 heap-translated s c p kind a n t =
     rw (t, heap-row (indexOf a) (accounts s)) (by-test (eqb (indexOf a) 0) (λ e. rw e) (λ e. rw e))
-
--- a refusal is no place
-refused-not : {r : Refusal} {x : Place} → Refused r ≡ Allowed x → ⊥
-refused-not e = let z : _≡_ {A = ℕ} 0 1 = cc in omega arith
 
 -- where it is allowed, so is the place
 passes : (k : Check) (t : Translation) {x : Place} → refusing k t ≡ Allowed x → t ≡ Allowed x

@@ -8,6 +8,7 @@ pub mod Stored
 pub mod StoreCalls
 pub mod LoadCalls
 pub mod Refused
+pub mod RecordCalls
 pub mod Induction
 pub mod Steps
 pub mod Reading

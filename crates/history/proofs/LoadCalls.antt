@@ -1,7 +1,7 @@
 -- The calls that change nothing keep the invariant, and an accepted load of account data gives the plain copy's bytes.
 -- Assumes nothing.
 use Prim.Native.Nat.{ℕ, _+_, _*_, _/_, _%_, _≤_, _<_}
-use mathlib.Core.Path.{_≡_, refl, sym, _∙_}
+use mathlib.Core.Path.{_≡_, refl, sym, ap, _∙_}
 use mathlib.Core.Bool.{true}
 use mathlib.Core.List.{List}
 use native.Mathlib.Omega.{arith}
@@ -10,9 +10,7 @@ use borrow.Author.Tests.{eqb-true, eq-eqb}
 use Rattle.layout.specs.Page.{pageSize}
 use Rattle.words.specs.Words.{wordAt, bytesAt}
 use Rattle.words.proofs.Word.{word-ext}
-use Rattle.words.proofs.Run.{bytesAt-ext}
-use Rattle.choice.proofs.Tests.{differ}
-use Rattle.refusal.proofs.Checks.{refusal-number}
+use Rattle.words.proofs.Run.{bytesAt-ext, length-zeros}
 use Rattle.refusal.specs.Numbers.{done}
 use Rattle.address.specs.Address.{typeOf, indexOf, offsetOf}
 use Rattle.control.specs.Buffers.{Buffers}
@@ -21,19 +19,21 @@ use Rattle.frames.specs.declared.claim.Found.{Found}
 use Rattle.frames.specs.declared.claim.Found.the-variants.{At, Nothing}
 use Rattle.frames.proofs.Claims.{frame-found}
 use Rattle.segments.specs.Kinds.{kindLoad, kindLoadSpan}
-use Rattle.translate.specs.Place.{numberOfAnswer}
 use Rattle.translate.specs.Translate.{translateOf}
-use Rattle.translate.specs.declared.place.Place.{Place}
 use Rattle.translate.specs.declared.place.Translation.{Translation}
-use Rattle.translate.specs.declared.place.Translation.the-variants.{Allowed, Refused}
+use Rattle.translate.proofs.Answered.{allowed}
 use Rattle.translate.proofs.Accepted.{data-accepted}
 use Rattle.access.specs.Loads.{loadOf, loadSpanOutcome, loadSpanOut}
 use Rattle.access.proofs.Seen.{seen, load-value, load-span-bytes}
-use Rattle.hekthumar.specs.Steps.{Call, begin, translation, load, store, fetch, load-span, store-span, call, return, resize, change-list, page-view, stepOf}
+use Rattle.records.specs.Layout.{Layout, recordLength}
+use Rattle.records.specs.Calls.{blank, readOutcome, readBytes}
+use Rattle.hekthumar.specs.Steps.{Call, begin, translation, load, store, fetch, load-span, store-span, read-record, write-record, call, return, resize, change-list, page-view, Step, stepOf}
 use Rattle.history.specs.Replay.{Replay, inData}
 use Rattle.history.specs.Claims.{LoadRight}
+use Rattle.history.specs.Records.{ReadsAreSpans}
 use Rattle.history.proofs.Good.{copyOf, Good}
 use Rattle.history.proofs.Pages.{touched-found}
+use Rattle.history.proofs.RecordCalls.{reads-are-spans}
 
 -- ---- what is seen of a page is the plain copy
 
@@ -61,11 +61,6 @@ module _ {s : List ℕ} {b : Buffers} {r : Replay} (g : Good s b r) (a n : ℕ) 
 
 -- ---- loads
 
--- an answer with the number 0 is a place
-allowed : {A : Type 0} (t : Translation) → numberOfAnswer t ≡ done → ((q : Place) → t ≡ Allowed q → A) → A
-allowed (Allowed q) e f = f q refl
-allowed (Refused x) e f = absurd (differ _ (eq-eqb _ _ e) (refusal-number x))
-
 module _ {s : List ℕ} {b : Buffers} {r : Replay} (g : Good s b r) where
   -- an accepted load in type 3 gives the number that the plain copy's bytes spell
   load-right : (a n : ℕ) → loadOf s (b .control) (b .pool) a n .outcome .number ≡ done → inData a ≡ true
@@ -91,7 +86,16 @@ module _ {s : List ℕ} {b : Buffers} {r : Replay} (g : Good s b r) where
       ∙ seen-plain g a (length out) (data-accepted s (b .control) (b .pool) kindLoadSpan a (length out) t refl type .0 .within)
       (bytesAt (length out)) (bytesAt-ext (length out)) _ refl)
 
-  -- every call gives what is claimed of it: of calls other than these two nothing is
+  -- so does an accepted read of a record, which is such a span load
+  read-record-right : (l : Layout) (a : ℕ) → readOutcome s (b .control) (b .pool) l a .number ≡ done → inData a ≡ true
+      → readBytes s (b .control) (b .pool) l a ≡ bytesAt (recordLength (l .widths)) (r .plain (indexOf a)) (offsetOf a)
+  unfolding stepOf ReadsAreSpans
+  read-record-right l a e h =
+      let same = reads-are-spans s b l a .step (eq-eqb _ _ e) in
+      ap (λ (x : Step). x .answer .bytes) same
+      ∙ rw (length-zeros (recordLength (l .widths))) at (load-span-right a (blank l) (sym (ap (λ (x : Step). x .answer .number) same) ∙ e) h)
+
+  -- every call gives what is claimed of it: of calls other than these three nothing is
   pub right-call : (k : Call) → LoadRight r k (stepOf s b k .answer)
   unfolding LoadRight stepOf
   right-call (begin x) = tt
@@ -101,6 +105,8 @@ module _ {s : List ℕ} {b : Buffers} {r : Replay} (g : Good s b r) where
   right-call (fetch a n) = tt
   right-call (load-span a out) = load-span-right a out
   right-call (store-span a bytes) = tt
+  right-call (read-record l a) = read-record-right l a
+  right-call (write-record l a fields) = tt
   right-call (call a registers) = tt
   right-call (return registers) = tt
   right-call (resize region n) = tt

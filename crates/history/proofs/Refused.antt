@@ -24,6 +24,8 @@ use Rattle.translate.specs.declared.place.Translation.{Translation}
 use Rattle.translate.specs.declared.place.Translation.the-variants.{Allowed, Refused}
 use Rattle.access.specs.Loads.{answered, loadOf, fetchOf, filled, loadSpanOutcome, loadSpanOut}
 use Rattle.access.specs.Stores.{controlAfter, poolAfter, storeOutcome, storeControl, storePool}
+use Rattle.records.specs.Layout.{encoded, validFields}
+use Rattle.records.specs.Calls.{blank, judged, readValid, readOutcome, readBytes, writeOutcome, writeControl, writePool}
 use Rattle.invoke.specs.Invoke.{beginCheck, beginNumber, beginControl, beginPool, callCheck, callNumber, callControl, returnCheck, returnNumber, returnControl, returnOut}
 use Rattle.regions.specs.Resize.{Resized, growCheck, growTo, shrinkCheck, shrinkControl, resizeTo, resizeCheck, regionOf, orRefused, resizeOf}
 use Rattle.changes.specs.List.{listCheck, changeListNumber, changeListOut}
@@ -31,7 +33,7 @@ use Rattle.apply.specs.Apply.{listGood, applyNumber, applyData}
 use Rattle.view.specs.View.{viewOf, viewNumber, viewBytes}
 use Rattle.view.specs.declared.View.{View}
 use Rattle.view.specs.declared.View.the-variants as view
-use Rattle.hekthumar.specs.Steps.{Call, begin, translation, load, store, fetch, load-span, store-span, call, return, resize, change-list, page-view, stepOf}
+use Rattle.hekthumar.specs.Steps.{Call, begin, translation, load, store, fetch, load-span, store-span, read-record, write-record, call, return, resize, change-list, page-view, stepOf}
 use Rattle.history.specs.Calls.{accepted}
 use Rattle.history.specs.Refusals.{given, Unchanged, RefusedKeeps, ApplyKeeps}
 use Rattle.history.specs.Replay.{Replay}
@@ -120,7 +122,7 @@ module _ (s : List ℕ) (b : Buffers) where
 
   -- "Every number but 0 changes nothing": a refused call of any kind
   pub refused-keeps : (k : Call) → accepted s b k ≡ false → Unchanged b k (stepOf s b k)
-  unfolding stepOf given beginNumber beginControl beginPool loadOf fetchOf loadSpanOutcome loadSpanOut callNumber callControl returnNumber returnControl returnOut resizeOf changeListNumber changeListOut
+  unfolding stepOf given readOutcome readBytes writeOutcome writeControl writePool judged beginNumber beginControl beginPool loadOf fetchOf loadSpanOutcome loadSpanOut callNumber callControl returnNumber returnControl returnOut resizeOf changeListNumber changeListOut
   refused-keeps (begin x) e =
       let k : Check = beginCheck s (length c) (length p) x in
       record { after = same-buffers (stop-keeps k c _ e) (stop-keeps k p _ e); value = refl; bytes = refl }
@@ -133,6 +135,21 @@ module _ (s : List ℕ) (b : Buffers) where
   refused-keeps (load-span a out) e =
       record { after = refl; value = refl; bytes = not-filled s c p out (translateOf s c p kindLoadSpan a (length out)) e }
   refused-keeps (store-span a bytes) e = record { after = store-left kindStoreSpan a bytes e; value = refl; bytes = refl }
+  refused-keeps (read-record l a) e =
+      record {
+        after = refl;
+        value = refl;
+        bytes =
+            by-test (readValid s c p l a)
+            (λ v. rw v (not-filled s c p (blank l) (translateOf s c p kindLoadSpan a (length (blank l))) (rw v at e)))
+            (λ v. rw v);
+      }
+  refused-keeps (write-record l a fields) e =
+      record {
+        after = by-test (validFields l fields) (λ v. rw v (store-left kindStoreSpan a (encoded (l .widths) fields) (rw v at e))) (λ v. rw v);
+        value = refl;
+        bytes = refl;
+      }
   refused-keeps (call a registers) e =
       record { after = same-buffers (stop-keeps (callCheck s c p a (length registers)) c _ e) refl; value = refl; bytes = refl }
   refused-keeps (return registers) e =

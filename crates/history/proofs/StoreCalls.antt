@@ -1,4 +1,4 @@
--- The two store calls keep the invariant, accepted or refused. Assumes nothing.
+-- The two store calls and a record's write keep the invariant, accepted or refused. Assumes nothing.
 use Prim.Native.Nat.{ℕ}
 use mathlib.Core.Path.{_≡_, refl}
 use mathlib.Core.Bool.{true}
@@ -20,11 +20,15 @@ use Rattle.translate.specs.Translate.{translateOf}
 use Rattle.translate.specs.declared.place.Translation.{Translation}
 use Rattle.translate.specs.declared.place.Translation.the-variants.{Allowed, Refused}
 use Rattle.access.specs.Stores.{controlAfter, poolAfter, storeOutcome, storeControl, storePool}
-use Rattle.hekthumar.specs.Steps.{store, store-span, stepOf}
-use Rattle.history.specs.Calls.{effect}
+use Rattle.records.specs.Layout.{Layout, encoded}
+use Rattle.hekthumar.specs.Steps.{store, store-span, write-record, stepOf}
+use Rattle.history.specs.Calls.{accepted, effect}
+use Rattle.history.specs.Records.{WritesAreSpans}
 use Rattle.history.specs.Replay.{Replay, inData, stored, replayEffect}
 use Rattle.history.proofs.Good.{Good}
 use Rattle.history.proofs.Others.{GoodAfter}
+use Rattle.history.proofs.Refused.{keep-refused}
+use Rattle.history.proofs.RecordCalls.{writes-are-spans}
 use Rattle.history.proofs.Stored.{keep-store, keep-region-store}
 
 module _ {s : List ℕ} {b : Buffers} {r : Replay} (g : Good s b r) where
@@ -48,3 +52,11 @@ module _ {s : List ℕ} {b : Buffers} {r : Replay} (g : Good s b r) where
   pub keep-store-span-call : (a : ℕ) (bytes : List ℕ) → GoodAfter s b r (store-span a bytes)
   unfolding stepOf effect replayEffect storeOutcome storeControl storePool
   keep-store-span-call a bytes = keep-answer kindStoreSpan a (length bytes) bytes refl refl _ refl
+
+  -- a record's write: accepted it is that span store, refused it changes nothing
+  pub keep-write-record : (l : Layout) (a : ℕ) (fields : List ℕ) → GoodAfter s b r (write-record l a fields)
+  unfolding effect WritesAreSpans
+  keep-write-record l a fields =
+      by-test (accepted s b (write-record l a fields))
+      (λ e. rw (writes-are-spans s b l a fields .step e) (keep-store-span-call a (encoded (l .widths) fields)))
+      (λ e. keep-refused g (write-record l a fields) e)

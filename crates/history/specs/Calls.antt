@@ -6,7 +6,8 @@ use lib.Dec.{eqb}
 use Rattle.words.specs.Words.{wordBytes}
 use Rattle.refusal.specs.Numbers.{done}
 use Rattle.control.specs.Buffers.{Buffers}
-use Rattle.hekthumar.specs.Steps.{Call, begin, translation, load, store, fetch, load-span, store-span, call, return, resize, change-list, page-view, stepOf}
+use Rattle.records.specs.Layout.{encoded}
+use Rattle.hekthumar.specs.Steps.{Call, begin, translation, load, store, fetch, load-span, store-span, read-record, write-record, call, return, resize, change-list, page-view, stepOf}
 
 -- "Accepted means answered with 0."
 abbrev pub accepted : List ℕ → Buffers → Call → Bool
@@ -27,6 +28,8 @@ effect (store a n v) = stores a (wordBytes n v)
 effect (fetch a n) = other
 effect (load-span a out) = other
 effect (store-span a bytes) = stores a bytes
+effect (read-record l a) = other
+effect (write-record l a fields) = stores a (encoded (l .widths) fields)
 effect (call a registers) = other
 effect (return registers) = other
 effect (resize region n) = other

@@ -15,13 +15,14 @@ use Rattle.control.specs.Buffers.{Buffers}
 use Rattle.invoke.specs.declared.begin.Start.{Start}
 use Rattle.changes.specs.List.{changeListNumber, changeListOut}
 use Rattle.apply.specs.Apply.{applyNumber, applyData}
+use Rattle.records.specs.Layout.{recordLength}
 use Rattle.lifecycle.specs.Regions.{framesInUse}
-use Rattle.hekthumar.specs.Steps.{Call, begin, translation, load, store, fetch, load-span, store-span, call, return, resize, change-list, page-view, Answer, stepOf}
+use Rattle.hekthumar.specs.Steps.{Call, begin, translation, load, store, fetch, load-span, store-span, read-record, write-record, call, return, resize, change-list, page-view, Answer, stepOf}
 use Rattle.history.specs.Calls.{accepted, run}
 use Rattle.history.specs.Replay.{Replay, started, inData, replayStep, replay, feed, touchedKeys, expectedList}
 
 -- "Every accepted load or span load in type 3 gave the bytes that the plain copy its index names held there at that call, a load as
--- their little-endian number."
+-- their little-endian number." A record's read is a span load of as many bytes as it has.
 unfoldable pub LoadRight : Replay → Call → Answer → Type 0
 LoadRight r (begin p) x = Unit {0}
 LoadRight r (translation kind a n) x = Unit {0}
@@ -31,6 +32,9 @@ LoadRight r (fetch a n) x = Unit {0}
 LoadRight r (load-span a out) x =
     x .number ≡ done → inData a ≡ true → x .bytes ≡ bytesAt (length out) (r .plain (indexOf a)) (offsetOf a)
 LoadRight r (store-span a bytes) x = Unit {0}
+LoadRight r (read-record l a) x =
+    x .number ≡ done → inData a ≡ true → x .bytes ≡ bytesAt (recordLength (l .widths)) (r .plain (indexOf a)) (offsetOf a)
+LoadRight r (write-record l a fields) x = Unit {0}
 LoadRight r (call a registers) x = Unit {0}
 LoadRight r (return registers) x = Unit {0}
 LoadRight r (resize region n) x = Unit {0}

@@ -3,3 +3,4 @@ pub mod Refusals
 pub mod Replay
 pub mod Claims
 pub mod Heap
+pub mod Records

@@ -9,10 +9,12 @@ use Rattle.refusal.specs.Numbers.{done}
 use Rattle.snapshot.specs.declared.accounts.Account.{Account}
 use Rattle.control.specs.Buffers.{Buffers}
 use Rattle.apply.specs.Apply.{applyNumber, applyData}
-use Rattle.hekthumar.specs.Steps.{Call, begin, translation, load, store, fetch, load-span, store-span, call, return, resize, change-list, page-view, Step, stepOf}
+use Rattle.records.specs.Calls.{blank}
+use Rattle.hekthumar.specs.Steps.{Call, begin, translation, load, store, fetch, load-span, store-span, read-record, write-record, call, return, resize, change-list, page-view, Step, stepOf}
 use Rattle.history.specs.Calls.{accepted}
 
--- what is left of the lent buffer of a call that is refused: its bytes as they were given; there is none, or an empty view, otherwise
+-- what is left of the lent buffer of a call that is refused: its bytes as they were given; of a record zeros; there is none, or an empty
+-- view, otherwise
 unfoldable pub given : Call → List ℕ
 given (begin x) = []
 given (translation kind a n) = []
@@ -21,6 +23,8 @@ given (store a n v) = []
 given (fetch a n) = []
 given (load-span a out) = out
 given (store-span a bytes) = []
+given (read-record l a) = blank l
+given (write-record l a fields) = []
 given (call a registers) = []
 given (return registers) = registers
 given (resize region n) = []

@@ -9,7 +9,7 @@ use Rattle.choice.proofs.Tests.{differ}
 use Rattle.refusal.specs.Numbers.{numberOf, done}
 use Rattle.refusal.specs.Checks.{need, _then_, checkNumber}
 use Rattle.refusal.specs.declared.Refusal.{Refusal}
-use Rattle.refusal.specs.declared.Refusal.the-variants.{Invalid, BadRequest, BadAddress, NoSegment, Misaligned, Crossing, NotPermitted, NoFrame, DepthLimit, TooManyPages, ShortOutput, BadList, Absent}
+use Rattle.refusal.specs.declared.Refusal.the-variants.{Invalid, BadRequest, BadAddress, NoSegment, Misaligned, Crossing, NotPermitted, NoFrame, DepthLimit, TooManyPages, ShortOutput, BadList, Absent, BadRecord}
 use Rattle.refusal.specs.declared.Check.{Check}
 use Rattle.refusal.specs.declared.Check.the-variants.{Pass, Stop}
 
@@ -75,6 +75,7 @@ refusal-number TooManyPages = refl
 refusal-number ShortOutput = refl
 refusal-number BadList = refl
 refusal-number (Absent d) = refl
+refusal-number BadRecord = refl
 
 -- a check with the number 0 passed
 pub check-passed : (x : Check) → eqb (checkNumber x) done ≡ true → x ≡ Pass

@@ -27,6 +27,8 @@ pub enum Refusal {
     BadList,
     // a byte that is not present, so many bytes behind the first
     Absent(usize),
+    // a discriminant that is neither 0 nor 1
+    BadRecord,
 }
 
 // What a test finds: go on, or refuse.
@@ -56,6 +58,7 @@ pub fn number(r: Refusal) -> u8
         Refusal::ShortOutput => 11,
         Refusal::BadList => 12,
         Refusal::Absent(_) => 13,
+        Refusal::BadRecord => 14,
     }
 }
 
@@ -77,5 +80,6 @@ pub fn distance(r: Refusal) -> usize
         Refusal::ShortOutput => 0,
         Refusal::BadList => 0,
         Refusal::Absent(n) => n,
+        Refusal::BadRecord => 0,
     }
 }

@@ -1,6 +1,6 @@
 -- What 13 says: the byte at the distance is absent, every byte before it is present, and the distance is below the length. Assumes nothing.
 use Prim.Native.Nat.{ℕ, _+_, _-_, _*_, _/_, _%_, _≤_, _<_}
-use mathlib.Core.Path.{_≡_, refl, sym, ap, _∙_}
+use mathlib.Core.Path.{_≡_, refl, sym, ap}
 use mathlib.Core.Bool.{Bool, true, false, not}
 use mathlib.Core.List.{List}
 use native.Mathlib.Omega.{arith}
@@ -13,7 +13,7 @@ use Rattle.choice.specs.Choice.{both, either}
 use Rattle.choice.proofs.Tests.{by-test, differ, fails, both-true, both-intro}
 use Rattle.refusal.specs.Numbers.{numberOf}
 use Rattle.refusal.specs.Checks.{need}
-use Rattle.refusal.specs.declared.Refusal.the-variants.{Invalid, BadRequest, BadAddress, NoSegment, Misaligned, Crossing, NotPermitted, NoFrame, DepthLimit, TooManyPages, ShortOutput, BadList, Absent}
+use Rattle.refusal.specs.declared.Refusal.the-variants.{Invalid, BadRequest, BadAddress, NoSegment, Misaligned, Crossing, NotPermitted, NoFrame, DepthLimit, TooManyPages, ShortOutput, BadList, Absent, BadRecord}
 use Rattle.address.specs.Address.{typeOf, indexOf, offsetOf}
 use Rattle.snapshot.specs.Header.{accounts}
 use Rattle.control.specs.Control.{depth}
@@ -173,6 +173,7 @@ module _ (s c p : List ℕ) (kind a n : ℕ) where
   near (Refused (Absent d)) e =
       let x = in-row s c p kind a n absent absent-apart e refl in
       omega (arith, absent-law s c p kind a n d e .bytes .below, request-length kind n (x .request) .1)
+  near (Refused BadRecord) e = omega arith
 
   -- a distance is below a page's length
   pub distance-near : distanceOfAnswer (translateOf s c p kind a n) < pageSize

@@ -6,7 +6,7 @@ use mathlib.Core.Bool.{Bool, true, false}
 use mathlib.Core.List.{List}
 use native.Mathlib.Omega.{arith}
 use lib.Dec.{eqb, leb}
-use borrow.Author.Tests.{ltb-true, leb-true, lt-ltb}
+use borrow.Author.Tests.{ltb-true, leb-true, lt-ltb, le-leb}
 use Rattle.layout.specs.Page.{pageSize}
 use Rattle.layout.specs.Address.{addresses}
 use Rattle.choice.proofs.Tests.{differ}
@@ -21,7 +21,7 @@ use Rattle.snapshot.specs.Header.{accounts}
 use Rattle.snapshot.specs.Accounts.{entryOf, entryValid, dataLength}
 use Rattle.snapshot.specs.declared.accounts.Account.{Account}
 use Rattle.control.specs.Control.{buffersValid}
-use Rattle.segments.specs.Kinds.{requestValid, aligned}
+use Rattle.segments.specs.Kinds.{requestValid, aligned, within}
 use Rattle.segments.specs.Rules.{rules, rowOf, permitted}
 use Rattle.segments.specs.declared.rules.Presence.{Presence}
 use Rattle.segments.specs.declared.rules.Presence.the-variants.{Transaction, Shadow, Program, Context, Metadata, Data, Stack, Heap}
@@ -186,6 +186,23 @@ accepted s c p kind a n {t} e l =
     let x = in-row s c p kind a n last last-apart e l in
     let w = row-passed s c (x .row .presence) (x .row .store) (requestOf kind a n) t l (x .given) in
     record { buffers = x .buffers; request = x .request; address = x .address; row = x .row; found = x .found; passed = w .0; place = w .1 }
+
+-- and where they all passed, the place of the row is the answer
+pub accepted-answer : {s c p : List ℕ} {kind a n : ℕ} {t : Translation} → Accepted s c p kind a n t → translateOf s c p kind a n ≡ t
+unfolding translateOf firstChecks inSegment inRow rowCheck rowChecks within need _then_
+accepted-answer x =
+    rw (
+      x .buffers,
+      x .request,
+      lt-ltb _ _ (x .address),
+      x .found,
+      x .passed .entry,
+      x .passed .aligned,
+      x .passed .permitted,
+      le-leb _ _ (x .passed .within),
+      le-leb _ _ (x .passed .present),
+    )
+    (x .place)
 
 -- ---- account data
 

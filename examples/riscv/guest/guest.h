@@ -1,4 +1,4 @@
-/* What start.S, calls.S and probe.S give to the guests in C. */
+/* What start.S, calls.S, events.S and probe.S give to the guests in C. */
 #ifndef GUEST_H
 #define GUEST_H
 
@@ -15,6 +15,9 @@ uint64_t service_call(uint64_t (*function)(void));
 
 /* Gives the heap so many pages. */
 void service_heap(uint64_t pages);
+
+/* Passes an event to the host, which answers with a returned value and stores its bytes to the room; the number that the answer has. */
+uint64_t service_emit(uint64_t event, uint64_t returned, uint64_t room);
 
 /* One load or store of 8 bytes, a jump, and a recursion without end. */
 uint64_t probe_load(uint64_t address);

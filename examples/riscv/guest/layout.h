@@ -45,12 +45,17 @@ struct cell {
 
 enum { SLOT_ACCOUNT_BYTES = 6000, SLOTS = SLOT_ACCOUNT_BYTES / 32, REQUESTS_MAX = 8 };
 
+/* The announcing guest leaves at the heap's start how many answers said Ok, and after it how many said Err, a u64 each. */
+#define ANSWERS_OK HEAP
+#define ANSWERS_ERR (HEAP + 8)
+
 /* Services of the host: number in a7, arguments in a0 to a2. */
 #define SERVICE_END 0        /* a0: status */
 #define SERVICE_STORE_SPAN 1 /* a0: to, a1: from, a2: length; one span load and one span store */
 #define SERVICE_CALL 2       /* sp is moved to the callee's stack page */
 #define SERVICE_RETURN 3     /* a0: result; every other register is again what it was at the call */
 #define SERVICE_HEAP 4       /* a0: pages */
+#define SERVICE_EMIT 5       /* a0: an event, a1: where its answer goes, a2: descriptor of room for the answer's bytes; result in a0 */
 
 /* The first byte of the transaction tells the misbehaving guest what to try. */
 enum misbehaviour {

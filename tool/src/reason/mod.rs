@@ -4,7 +4,8 @@
 pub mod access;
 pub mod changes;
 pub mod invocation;
-mod segment;
+pub mod record;
+pub mod segment;
 
 use crate::rules::{control, snapshot, Broken};
 use crate::verdict::{account_valid, buffers_valid};

@@ -2,7 +2,10 @@
 
 pub mod forms;
 mod parse;
+mod records;
 mod words;
+
+pub use records::{Content, Layout};
 
 use crate::answer::Fact;
 use hekthumar::{Address, Kind, Region};
@@ -72,6 +75,8 @@ pub enum Statement {
     Store { address: Address, size: usize, value: u64 },
     LoadSpan { address: Address, length: usize },
     StoreSpan { address: Address, bytes: Vec<u8> },
+    Read { record: Layout, address: Address },
+    Write { address: Address, content: Content },
     Translate { kind: Kind, address: Address, length: usize },
     Call { program: u16, register: u64 },
     Return,

@@ -2,7 +2,7 @@
 
 use super::forms::Form;
 use super::words::{Mistake, Word, Words};
-use super::{Buffer, Complaint, Expected, Line, Statement};
+use super::{Buffer, Complaint, Expected, Layout, Line, Statement};
 use crate::answer::Fact;
 use crate::text::printable;
 use hekthumar::layout::MAX_FRAMES;
@@ -54,13 +54,14 @@ fn line(number: usize, text: &[u8]) -> Result<Option<Line>, Complaint> {
         let mistake = format!("there is no statement {}; hekthumar --help lists them", name.quoted());
         return Err(Complaint { line: number, column: name.column, mistake, usage: None });
     };
-    let read = statement(name, &mut words).and_then(|statement| Ok((statement, expected(form, &mut words)?)));
+    let record = form.record(words.peek());
+    let read = statement(name, &mut words).and_then(|statement| Ok((statement, expected(form, record, &mut words)?)));
     match read {
         Ok((statement, expected)) => {
             let text = text.strip_suffix(b"\r").unwrap_or(text).to_vec();
             Ok(Some(Line { number, text, column: name.column, statement, expected }))
         }
-        Err(Mistake { column, mistake }) => Err(Complaint { line: number, column, mistake, usage: Some(form.usage()) }),
+        Err(Mistake { column, mistake }) => Err(Complaint { line: number, column, mistake, usage: Some(form.usage(record)) }),
     }
 }
 
@@ -77,6 +78,11 @@ fn statement(name: Word, words: &mut Words) -> Result<Statement, Mistake> {
         b"store" => Statement::Store { address: address(words)?, size: size(words, "SIZE")?, value: words.number("VALUE")? },
         b"load-span" => Statement::LoadSpan { address: address(words)?, length: size(words, "LENGTH")? },
         b"store-span" => Statement::StoreSpan { address: address(words)?, bytes: words.bytes("BYTES")? },
+        b"read" => Statement::Read { record: Layout::read(words)?, address: address(words)? },
+        b"write" => {
+            let (record, address) = (Layout::read(words)?, address(words)?);
+            Statement::Write { address, content: record.content(words)? }
+        }
         b"translate" => Statement::Translate { kind: kind(words)?, address: address(words)?, length: size(words, "LENGTH")? },
         b"call" => Statement::Call { program: words.short("PROGRAM")?, register: optional(words, "VALUE")?.unwrap_or(0) },
         b"return" => Statement::Return,
@@ -109,14 +115,14 @@ fn optional(words: &mut Words, what: &str) -> Result<Option<u64>, Mistake> {
 }
 
 /// What a statement is expected to be answered with, as its form names the words. Then the line ends.
-fn expected(form: &Form, words: &mut Words) -> Result<Option<Expected>, Mistake> {
+fn expected(form: &Form, record: Option<Layout>, words: &mut Words) -> Result<Option<Expected>, Mistake> {
     let Some(sign) = words.expects() else {
         return words.end().map(|()| None);
     };
     if form.answer.is_empty() {
         return Err(Mistake::new(sign.column, format!("nothing can be expected of {}", form.name)));
     }
-    let answers = form.answers();
+    let answers = form.answers(record);
     let first = fact(answers[0][0], words)?;
     let number = first.to_string();
     let names = answers.iter().find(|names| names[0] == number).unwrap_or(&answers[0]);
@@ -140,6 +146,7 @@ fn fact(name: &str, words: &mut Words) -> Result<Fact, Mistake> {
         "BUFFER" => named(words, name, &["snapshot", "pool"])?,
         "MARKS" => Fact::Word(printable(words.next(name)?.text)),
         "VALUE" | "REGISTER.." => Fact::Value(words.number(name.trim_end_matches('.'))?),
+        _ if name.ends_with("POINTER") => Fact::Value(words.number(name)?),
         _ => Fact::Number(words.number(name.trim_end_matches('.'))?),
     })
 }

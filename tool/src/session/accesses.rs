@@ -57,7 +57,7 @@ impl Session {
     }
 
     /// The answer of an access that was refused: the distance follows the number that has one.
-    fn refused(&self, asked: Access, refusal: Refusal) -> Answer {
+    pub(super) fn refused(&self, asked: Access, refusal: Refusal) -> Answer {
         let mut answer = Answer::refused(refusal, access::why(self.world(), asked, refusal));
         if let Refusal::Absent { distance } = refusal {
             answer.facts.push(Fact::Number(distance.into()));

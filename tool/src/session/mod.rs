@@ -4,6 +4,7 @@ mod accesses;
 mod buffers;
 mod changes;
 mod invocations;
+mod records;
 
 pub use buffers::{CONTROL, POOL};
 pub use changes::pages;
@@ -48,6 +49,8 @@ impl Session {
             Statement::Store { address, size, value } => self.store(address, size, value),
             Statement::LoadSpan { address, length } => self.load_span(address, length),
             Statement::StoreSpan { address, ref bytes } => self.store_span(address, bytes),
+            Statement::Read { record, address } => self.read(record, address),
+            Statement::Write { address, content } => self.write(address, content),
             Statement::Translate { kind, address, length } => self.translate(kind, address, length),
             Statement::Call { program, register } => self.call(program, register),
             Statement::Return => self.return_from(),

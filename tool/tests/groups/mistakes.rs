@@ -41,7 +41,7 @@ const COLUMNS: &str = "\t\tjump\n\
 const ESCAPES: &[u8] = b"ju\x1b[2Jmp 7\nbegin \x1b]0;title\x07\nlist \xc2\x85\xff\npoke \x00 0 00\nmap\x0b\n";
 
 /// The files of the first lines are not written: a later line cannot be read.
-const NOTHING_DONE: &str = "begin 0\nsave-list kept-list\nsave-control kept-control\nsave-pool kept-pool\nlist => 14\n";
+const NOTHING_DONE: &str = "begin 0\nsave-list kept-list\nsave-control kept-control\nsave-pool kept-pool\nlist => 15\n";
 
 pub fn cases() -> Vec<Case> {
     let single = SINGLE.map(|(name, script)| Case::script(name, sound_mill(), script));

@@ -21,6 +21,7 @@ fn statements() -> Vec<Case> {
     vec![
         every_statement(),
         heap_left(),
+        Case::script("run-records", sound_mill(), include_str!("../inputs/records.txt")),
         Case::script("run-no-frames", sound_mill(), no_frames),
         Case::script("run-largest", sound_mill(), include_str!("../inputs/largest.txt")),
         Case::script("run-frames", sound_mill(), "frames 257\nmap\n"),

@@ -1,6 +1,6 @@
 //! The library's functions with slices, in the shapes of `plain`.
 
-use hekthumar::sys::{self, Outcome, Place, Value, View};
+use hekthumar::sys::{self, Event, Outcome, Place, ReadAnswer, Value, View};
 
 // SAFETY, for each function here: each pointer and length is a slice's, and the borrow rules keep a written slice apart from the others.
 
@@ -28,6 +28,14 @@ pub fn load_span(s: &[u8], c: &[u8], p: &[u8], address: u64, out: &mut [u8]) -> 
 pub fn store_span(s: &[u8], c: &mut [u8], p: &mut [u8], address: u64, bytes: &[u8]) -> Outcome {
     let (at, n) = (bytes.as_ptr(), bytes.len());
     unsafe { sys::hekthumar_store_span(s.as_ptr(), s.len(), c.as_mut_ptr(), c.len(), p.as_mut_ptr(), p.len(), address, at, n) }
+}
+
+pub fn read_event(s: &[u8], c: &[u8], p: &[u8], address: u64) -> ReadAnswer<Event> {
+    unsafe { sys::hekthumar_read_event(s.as_ptr(), s.len(), c.as_ptr(), c.len(), p.as_ptr(), p.len(), address) }
+}
+
+pub fn write_event(s: &[u8], c: &mut [u8], p: &mut [u8], address: u64, event: Event) -> Outcome {
+    unsafe { sys::hekthumar_write_event(s.as_ptr(), s.len(), c.as_mut_ptr(), c.len(), p.as_mut_ptr(), p.len(), address, event) }
 }
 
 pub fn begin(s: &[u8], c: &mut [u8], p: &mut [u8], program: u16) -> u8 {

@@ -95,7 +95,7 @@ fn take(s: &[u8], c: &mut [u8], p: &mut [u8], frame: usize, account: usize, page
 
 /// The bytes of the pool that a store goes to, in a frame taken for it where one is needed.
 #[inline(always)]
-fn target<'a>(s: &[u8], c: &mut [u8], p: &'a mut [u8], place: Place, address: u64, length: usize) -> &'a mut [u8] {
+pub fn target<'a>(s: &[u8], c: &mut [u8], p: &'a mut [u8], place: Place, address: u64, length: usize) -> &'a mut [u8] {
     let at = match place {
         Place::Pool(at) => at,
         Place::Take { frame, account, page } => {

@@ -1,6 +1,7 @@
 //! The buffers of a host.
 
 use hekthumar::*;
+use std::fmt::Debug;
 
 #[derive(Clone, Debug, PartialEq)]
 pub struct Host {
@@ -18,5 +19,14 @@ impl Host {
 
     pub fn memory(&mut self) -> Memory<'_> {
         Memory::new(&self.snapshot, &mut self.control, &mut self.pool)
+    }
+
+    /// A call that changes no byte where it is refused.
+    #[allow(dead_code)] // used by the tests that are about refusals
+    pub fn unless_refused<T: Debug>(&mut self, call: impl FnOnce(&mut Memory) -> Result<T, Refusal>) -> Result<T, Refusal> {
+        let before = self.clone();
+        let answer = call(&mut self.memory());
+        assert!(answer.is_ok() || *self == before, "{answer:?}");
+        answer
     }
 }

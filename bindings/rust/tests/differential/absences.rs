@@ -3,10 +3,10 @@
 use std::collections::{BTreeMap, BTreeSet};
 
 use crate::bytes::PAGE;
-use crate::interface::{Answer, Call};
+use crate::interface::{record_call, Answer, Call, NAMES};
 
-/// In the order of the kinds of a translation.
-const ACCESSES: [&str; 5] = ["load", "store", "fetch", "load_span", "store_span"];
+/// In the order of the kinds of a translation, which answers for these and not for records.
+const TRANSLATED: [&str; 5] = ["load", "store", "fetch", "load_span", "store_span"];
 
 /// Each segment, with a number that divides every offset at which its bytes present can end.
 const SEGMENTS: [(&str, usize); 8] = [
@@ -74,29 +74,35 @@ impl Absences {
     }
 }
 
-/// Bytes of the longest access of this kind, which does not go across a multiple of as many: a value is aligned, a span stays in a page.
+/// Bytes of the longest access of this kind. A value, which is aligned, crosses no multiple of as many, a span and a record no page.
 fn longest(access: &str) -> usize {
-    if access.ends_with("span") {
-        PAGE
-    } else {
-        8
+    match record_call(access) {
+        Some((_, shape)) => shape.length(),
+        None if access.ends_with("span") => PAGE,
+        None => 8,
     }
 }
 
-/// Distances that must be told: to a value all below its longest length, to a span the first and the last such.
+/// Distances that must be told: to a value and to a record all below its longest length, to a span the first and the last such.
 fn edges(access: &str) -> Vec<u64> {
     let last = longest(access) as u64 - 1;
-    if last < 8 {
-        return (0..=last).collect();
+    if access.ends_with("span") {
+        return vec![0, last];
     }
-    vec![0, last]
+    (0..=last).collect()
+}
+
+/// The accesses that a translation answers for, then those of records.
+fn accesses() -> impl Iterator<Item = &'static str> {
+    TRANSLATED.into_iter().chain(NAMES.into_iter().filter(|name| record_call(name).is_some()))
 }
 
 /// "Fetch is allowed in 0/3 only. Loads are allowed in every row."
 fn is_permitted(access: &str, segment: &str) -> bool {
+    let stores = record_call(access).map_or(access.starts_with("store"), |(is_read, _)| !is_read);
     match access {
         "fetch" => segment == "program",
-        "store" | "store_span" => ["account data", "stack", "heap"].contains(&segment),
+        _ if stores => ["account data", "stack", "heap"].contains(&segment),
         _ => true,
     }
 }
@@ -105,8 +111,8 @@ fn is_permitted(access: &str, segment: &str) -> bool {
 fn possible() -> BTreeSet<Case> {
     let mut cases = BTreeSet::new();
     for (segment, divisor) in SEGMENTS {
-        for access in ACCESSES.into_iter().filter(|access| is_permitted(access, segment)) {
-            for translated in [false, true] {
+        for access in accesses().filter(|access| is_permitted(access, segment)) {
+            for translated in [false, true].into_iter().filter(|translated| !translated || TRANSLATED.contains(&access)) {
                 cases.insert(Case { translated, access, segment, first_present: false });
                 if divisor < longest(access) {
                     cases.insert(Case { translated, access, segment, first_present: true });
@@ -126,9 +132,10 @@ fn access_of(call: &Call) -> Option<(&'static str, u64)> {
         Call::Fetch { address, .. } => (2, address),
         Call::LoadSpan { address, .. } => (3, address),
         Call::StoreSpan { address, .. } => (4, address),
+        Call::ReadRecord { address, .. } | Call::WriteRecord { address, .. } => return Some((NAMES[call.kind()], *address)),
         _ => return None,
     };
-    Some((ACCESSES.get(kind)?, *address))
+    Some((TRANSLATED.get(kind)?, *address))
 }
 
 fn segment_of(address: u64) -> &'static str {

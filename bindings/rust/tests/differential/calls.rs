@@ -7,6 +7,7 @@ use crate::interface::{Bytes, Call, World, KINDS, NAMES};
 use crate::lists;
 use crate::model::snapshot::{Entry, Header};
 use crate::random::Random;
+use crate::record_calls;
 use crate::world::{Size, LENGTHS};
 
 /// What a history is rich in.
@@ -14,7 +15,7 @@ pub struct Weights {
     /// How often each kind of call comes, in the order of `NAMES`.
     kinds: [usize; KINDS],
     /// How often a store goes to each row of the table of segments.
-    stores: [usize; ROWS],
+    pub stores: [usize; ROWS],
     small_resizes: bool,
 }
 
@@ -42,7 +43,7 @@ impl Weights {
 }
 
 /// In the order of `NAMES`.
-const KIND_WEIGHTS: [usize; KINDS] = [1, 1, 1, 1, 14, 12, 5, 16, 8, 10, 6, 4, 14, 4, 5, 6];
+const KIND_WEIGHTS: [usize; KINDS] = [1, 1, 1, 1, 14, 12, 5, 16, 8, 10, 6, 4, 14, 4, 5, 6, 2, 2, 2, 2, 3, 2, 2, 2, 2, 5];
 
 pub fn generate(random: &Random, world: &World, weights: &Weights) -> Call {
     match NAMES[random.weighted(&weights.kinds)] {
@@ -79,7 +80,8 @@ pub fn generate(random: &Random, world: &World, weights: &Weights) -> Call {
         "resize" => resize(random, world),
         "change_list" => change_list(random, world),
         "apply" => apply(random, world),
-        _ => page_view(random, world),
+        "page_view" => page_view(random, world),
+        name => record_calls::generate(random, world, name, &weights.stores),
     }
 }
 
@@ -158,7 +160,7 @@ fn joined(segment: u8, index: usize, offset: usize) -> u64 {
 }
 
 /// An offset inside what is present, or at or a few bytes from an edge of it; mostly aligned for the size.
-fn near(random: &Random, present: Range<usize>, size: usize) -> usize {
+pub fn near(random: &Random, present: Range<usize>, size: usize) -> usize {
     let inside = present.start + random.below(present.len().max(1));
     let last_page = present.end.saturating_sub(1) / PAGE * PAGE;
     let edge = random.choose(&[present.start, present.end, present.end, inside / PAGE * PAGE, last_page, MAX_DATA]);
@@ -172,8 +174,8 @@ fn near(random: &Random, present: Range<usize>, size: usize) -> usize {
 }
 
 /// How often an address lies in each row of the table of segments; the last is no segment, mostly.
-const ROWS: usize = 9;
-const ANY_ROW: [usize; ROWS] = [46, 13, 13, 4, 4, 4, 4, 7, 4];
+pub const ROWS: usize = 9;
+pub const ANY_ROW: [usize; ROWS] = [46, 13, 13, 4, 4, 4, 4, 7, 4];
 const STORE_ROWS: [usize; ROWS] = [60, 15, 15, 1, 1, 1, 1, 1, 1];
 /// For stores to the heap, mostly.
 const HEAP_ROWS: [usize; ROWS] = [16, 15, 60, 1, 1, 1, 1, 1, 1];
@@ -181,10 +183,25 @@ const FETCH_ROWS: [usize; ROWS] = [10, 4, 4, 2, 2, 60, 2, 3, 3];
 
 /// An address in any row of the table, in no row, or with upper bits.
 fn address(random: &Random, world: &World, size: usize, rows: &[usize; ROWS]) -> u64 {
+    address_by(random, world, rows, |present| near(random, present, size))
+}
+
+/// As above, with the offset chosen by what is present.
+pub fn address_by(random: &Random, world: &World, rows: &[usize; ROWS], offset: impl Fn(Range<usize>) -> usize) -> u64 {
+    let (segment, index, present) = row(random, world, rows);
+    let address = joined(segment, index, offset(present));
+    if random.chance(2) {
+        return address | 1 << (48 + random.below(16));
+    }
+    address
+}
+
+/// Type and index of an address in a row, and the offsets present there.
+fn row(random: &Random, world: &World, rows: &[usize; ROWS]) -> (u8, usize, Range<usize>) {
     let (stack, heap) = (world.region_size(STACK), world.region_size(HEAP));
     let row = random.weighted(rows);
     let no_page = (row == 1 && stack == 0) || (row == 2 && heap == 0);
-    let (segment, index, present) = match if no_page && random.chance(70) { 0 } else { row } {
+    match if no_page && random.chance(70) { 0 } else { row } {
         0 => {
             let account = account(random, world);
             (3, account, 0..world.data_length(account))
@@ -200,12 +217,7 @@ fn address(random: &Random, world: &World, size: usize, rows: &[usize; ROWS]) ->
         }
         7 => (2, random.below(world.accounts() + 1), 0..METADATA),
         _ => (random.below(9) as u8, random.below(6), 0..MAX_DATA),
-    };
-    let address = joined(segment, index, near(random, present, size));
-    if random.chance(2) {
-        return address | 1 << (48 + random.below(16));
     }
-    address
 }
 
 /// Three times in four an account that the current program can store to, if there is one.

@@ -4,46 +4,61 @@ use std::collections::BTreeMap;
 
 use crate::absences::Absences;
 use crate::begins::Begins;
-use crate::interface::{Answer, Call, KINDS, NAMES};
+use crate::discriminants::Discriminants;
+use crate::interface::{record_call, Answer, Call, KINDS, NAMES};
 use crate::model::Why;
+use crate::record::Shape;
 use crate::returns::Returns;
 
-pub const NUMBERS: usize = 14;
+pub const NUMBERS: usize = 15;
 
 /// "1 for headers, buffer lengths and frame D"
 const FIRST: [Why; 4] = [Why::Snapshot, Why::Control, Why::Pool, Why::Record];
 /// The first 1 of a begin, which reads nothing of the control block.
 pub const BEGIN: [Why; 3] = [Why::Snapshot, Why::Control, Why::Pool];
-/// What every access asks between the first 1 and permission. An access of a single value is never 6, since it is aligned; a span is
-/// never 5.
-const REACH: [Why; 6] = [Why::Length, Why::UpperBits, Why::NoSegment, Why::NoAccount, Why::Entry, Why::NotPresent];
+/// What every access asks between the first 1 and permission, but for its length: a record has that of its shape. An access of a single
+/// value is never 6, since it is aligned; a span is never 5.
+const REACH: [Why; 5] = [Why::UpperBits, Why::NoSegment, Why::NoAccount, Why::Entry, Why::NotPresent];
 /// What a store asks beyond a load.
 const STORE: [Why; 3] = [Why::Forbidden, Why::Tag, Why::NoFreeFrame];
 pub const PROGRAM: [Why; 3] = [Why::NoAccount, Why::Entry, Why::AbsentProgram];
 
 /// The refusals that the papers name for each kind of call, in the order of `NAMES`. Loads are allowed in every row, so they give no
 /// 7 and no 8. A fetch gives 7 outside 0/3, so it never asks for the frame of a stack or heap page.
-fn possible(kind: usize) -> Vec<Why> {
+pub fn possible(name: &str) -> Vec<Why> {
     use Why::*;
-    match NAMES[kind] {
+    match name {
         "join" => vec![WideOffset],
         "split" => vec![UpperBits],
         "begin" => [&BEGIN[..], &PROGRAM, &[NoFreeFrame]].concat(),
         "begin_pages" => [&BEGIN[..], &PROGRAM, &[StackPages, NoFreeFrame]].concat(),
-        "translate" => [&FIRST[..], &REACH, &STORE, &[UnknownKind, Misaligned, Crossing, Unclaimed]].concat(),
-        "load" => [&FIRST[..], &REACH, &[Misaligned, Unclaimed]].concat(),
-        "fetch" => [&FIRST[..], &REACH, &[Misaligned, Forbidden]].concat(),
-        "store" => [&FIRST[..], &REACH, &STORE, &[Misaligned, Unclaimed]].concat(),
-        "load_span" => [&FIRST[..], &REACH, &[Crossing, Unclaimed]].concat(),
-        "store_span" => [&FIRST[..], &REACH, &STORE, &[Crossing, Unclaimed]].concat(),
+        "translate" => [&FIRST[..], &REACH, &STORE, &[UnknownKind, Length, Misaligned, Crossing, Unclaimed]].concat(),
+        "load" => [&FIRST[..], &REACH, &[Length, Misaligned, Unclaimed]].concat(),
+        "fetch" => [&FIRST[..], &REACH, &[Length, Misaligned, Forbidden]].concat(),
+        "store" => [&FIRST[..], &REACH, &STORE, &[Length, Misaligned, Unclaimed]].concat(),
+        "load_span" => [&FIRST[..], &REACH, &[Length, Crossing, Unclaimed]].concat(),
+        "store_span" => [&FIRST[..], &REACH, &STORE, &[Length, Crossing, Unclaimed]].concat(),
         "call" => [&FIRST[..], &PROGRAM, &[Length, Depth]].concat(),
         "return" => [&FIRST[..], &[Length, Depth]].concat(),
         "resize" => [&FIRST[..], &[UnknownKind, TooManyPages, NoFreeFrame, Unclaimed, Tag]].concat(),
         "change_list" => [&FIRST[..], &[CopyOfNoAccount, CopyOfInvalidEntry, CopyWithoutLiveBytes, CopiedTwice, ShortOutput]].concat(),
         "apply" => vec![ListLayout, ListOrder, ListLiveCount, ListLiveOfData],
         "page_view" => [&FIRST[..], &[NoAccount, Entry, NoLiveBytes]].concat(),
-        name => unreachable!("{name} is no call"),
+        name => of_record(name),
     }
+}
+
+/// Those of the span load or span store, and of a returned value last its discriminant.
+fn of_record(name: &str) -> Vec<Why> {
+    let (is_read, shape) = record_call(name).unwrap_or_else(|| unreachable!("{name} is no call"));
+    let mut refusals = [&FIRST[..], &REACH, &[Why::Crossing, Why::Unclaimed]].concat();
+    if !is_read {
+        refusals.extend(STORE);
+    }
+    if shape == Shape::Returned {
+        refusals.push(Why::Discriminant);
+    }
+    refusals
 }
 
 /// How often each kind of call gave each number, and for which reason by the model.
@@ -55,6 +70,7 @@ pub struct Coverage {
     places: [u64; 6],
     absences: Absences,
     pub begins: Begins,
+    pub discriminants: Discriminants,
     pub returns: Returns,
     pub histories: u64,
     pub calls: u64,
@@ -77,7 +93,7 @@ impl Coverage {
     pub fn faults(&self) -> Vec<String> {
         let mut faults = vec![];
         for (kind, name) in NAMES.iter().enumerate() {
-            let possible = possible(kind);
+            let possible = possible(name);
             for why in possible.iter().filter(|&&why| !self.reasons.contains_key(&(kind, why))) {
                 faults.push(format!("{name} never gave {} for {why:?}", why.number()));
             }
@@ -93,6 +109,7 @@ impl Coverage {
         faults.extend((0..6).filter(unseen).map(|place| format!("translate never answered place {place}")));
         faults.extend(self.absences.faults());
         faults.extend(self.begins.faults());
+        faults.extend(self.discriminants.faults());
         faults.extend(self.returns.faults());
         faults
     }
@@ -100,10 +117,10 @@ impl Coverage {
     pub fn print(&self) {
         println!("{} histories, {} calls", self.histories, self.calls);
         let head: String = (0..NUMBERS).map(|number| format!("{number:>8}")).collect();
-        println!("{:<12}{head}", "");
+        println!("{:<18}{head}", "");
         for (name, counts) in NAMES.iter().zip(&self.numbers) {
             let cell = |&count: &u64| if count == 0 { format!("{:>8}", ".") } else { format!("{count:>8}") };
-            println!("{name:<12}{}", counts.iter().map(cell).collect::<String>());
+            println!("{name:<18}{}", counts.iter().map(cell).collect::<String>());
         }
         println!("places of translate, 0 to 5: {:?}", self.places);
         for (kind, name) in NAMES.iter().enumerate() {
@@ -113,6 +130,7 @@ impl Coverage {
         }
         self.absences.print();
         self.begins.print();
+        self.discriminants.print();
         self.returns.print();
     }
 }

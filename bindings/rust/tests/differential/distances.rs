@@ -5,9 +5,7 @@ use hekthumar::sys::{Place, View};
 
 use crate::bytes::*;
 use crate::interface::{Answer, Bytes, Call, World};
-use crate::library;
-use crate::model;
-use crate::trials::{begun_with, expect, expect_with};
+use crate::trials::{begun_with, expect, expect_answer, expect_with};
 
 const DATA: u64 = 0x0300_0500_0000;
 const PROGRAM: u64 = 0x0000_0300_0000;
@@ -143,8 +141,7 @@ fn translation_and_view() {
         (translated(0, DATA + 5998, 8), place(0, 5)),
         (Call::PageView { account: 5, page: 2 }, Answer::View(View { start: 0, length: 0, holder: 0, number: 13 })),
     ];
-    for (mut call, answer) in calls {
-        assert_eq!(model::run(&mut world, &mut call, None).0, answer, "model: {}", call.describe());
-        assert_eq!(library::run(&mut world, &mut call), answer, "library: {}", call.describe());
+    for (call, answer) in calls {
+        expect_answer(&mut world, call, answer);
     }
 }

@@ -1,12 +1,16 @@
 //! One history: the same calls given to the library and to the model, all answers and buffers compared after each.
 
+use hekthumar::sys::ReadAnswer;
+
 use crate::calls::{self, Weights};
 use crate::coverage::Coverage;
 use crate::damage;
+use crate::discriminants;
 use crate::interface::{Answer, Call, World};
 use crate::library;
 use crate::model::{self, Bug};
 use crate::random::Random;
+use crate::record_calls;
 use crate::replay::{Replay, Slip};
 use crate::returns;
 use crate::world::{self, Size};
@@ -74,6 +78,10 @@ impl Run<'_> {
                 self.damaged_step(&weights)?;
                 continue;
             }
+            if self.random.chance(4) {
+                let calls = record_calls::left_by_program(&self.random, &self.library, &weights.stores);
+                calls.into_iter().try_for_each(|call| self.step(call))?;
+            }
             let call = calls::generate(&self.random, &self.library, &weights);
             self.step(call)?;
         }
@@ -102,6 +110,7 @@ impl Run<'_> {
         let (mut by_library, mut by_model) = (call.clone(), call.clone());
         let due = model::begin_refusals(&mut self.model, &call);
         let case = returns::case(&call, &self.library, !self.is_replayed());
+        let discriminant = discriminants::met(&call, &mut self.library);
         let given = library::run(&mut self.library, &mut by_library);
         let (expected, why) = model::run(&mut self.model, &mut by_model, self.plan.bug);
         let difference = buffers(&self.library, &by_library).first_difference(buffers(&self.model, &by_model));
@@ -113,9 +122,20 @@ impl Run<'_> {
         self.coverage.record(&call, &given, why);
         self.coverage.begins.record(&call, &self.library, &due);
         self.coverage.returns.record(case, &given, why);
-        let replayed = self.replayed(&by_library, &given);
+        self.coverage.discriminants.record(discriminant, why);
+        let right = self.replayed(&by_library, &given).and_then(|()| self.reads_back(&call, &given));
         self.calls += 1;
-        replayed.map_err(|text| self.place(&format!("{}\n{text}", call.describe())))
+        right.map_err(|text| self.place(&format!("{}\n{text}", call.describe())))
+    }
+
+    /// "An accepted write, then at once a read at the same address, gives the record back."
+    fn reads_back(&mut self, call: &Call, answer: &Answer) -> Result<(), String> {
+        let (Call::WriteRecord { address, record }, 0) = (call, answer.number()) else { return Ok(()) };
+        let read = library::run(&mut self.library, &mut Call::ReadRecord { shape: record.shape(), address: *address });
+        if read != Answer::Read(ReadAnswer { record: *record, distance: 0, number: 0 }) {
+            return Err(format!("read at once, the record is another: {read:?}"));
+        }
+        Ok(())
     }
 
     fn replayed(&mut self, call: &Call, answer: &Answer) -> Result<(), String> {

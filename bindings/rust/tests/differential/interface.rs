@@ -2,7 +2,9 @@
 
 use std::fmt;
 
-use hekthumar::sys::{Fields, Joined, Outcome, Place, Value, View};
+use hekthumar::sys::{Fields, Joined, Outcome, Place, ReadAnswer, Value, View};
+
+use crate::record::{Record, Shape};
 
 /// The three lent buffers.
 #[derive(Clone, PartialEq, Eq)]
@@ -42,9 +44,11 @@ pub enum Call {
     ChangeList { out: Bytes },
     Apply { list: Bytes, account: u16, data: Bytes },
     PageView { account: u16, page: u16 },
+    ReadRecord { shape: Shape, address: u64 },
+    WriteRecord { address: u64, record: Record },
 }
 
-pub const KINDS: usize = 16;
+pub const KINDS: usize = 26;
 pub const NAMES: [&str; KINDS] = [
     "join",
     "split",
@@ -62,7 +66,28 @@ pub const NAMES: [&str; KINDS] = [
     "change_list",
     "apply",
     "page_view",
+    "read_buffer",
+    "read_event",
+    "read_location",
+    "read_call_record",
+    "read_returned",
+    "write_buffer",
+    "write_event",
+    "write_location",
+    "write_call_record",
+    "write_returned",
 ];
+
+/// Where the reads start in `NAMES`, and the writes; each in the order of the shapes.
+const READS: usize = 16;
+const WRITES: usize = READS + Shape::ALL.len();
+
+/// Whether a call of this name reads or writes a record, and of which shape.
+pub fn record_call(name: &str) -> Option<(bool, Shape)> {
+    let kind = NAMES.iter().position(|other| *other == name)?;
+    let shape = *Shape::ALL.get(kind.checked_sub(READS)? % Shape::ALL.len())?;
+    Some((kind < WRITES, shape))
+}
 
 impl Call {
     /// The call's place in `NAMES`.
@@ -84,6 +109,8 @@ impl Call {
             Call::ChangeList { .. } => 13,
             Call::Apply { .. } => 14,
             Call::PageView { .. } => 15,
+            Call::ReadRecord { shape, .. } => READS + *shape as usize,
+            Call::WriteRecord { record, .. } => WRITES + record.shape() as usize,
         }
     }
 
@@ -107,7 +134,9 @@ impl Call {
             | Call::Fetch { address, .. }
             | Call::Store { address, .. }
             | Call::LoadSpan { address, .. }
-            | Call::StoreSpan { address, .. } => *address,
+            | Call::StoreSpan { address, .. }
+            | Call::ReadRecord { address, .. }
+            | Call::WriteRecord { address, .. } => *address,
             _ => return format!("{self:?}"),
         };
         let (upper, segment, index, offset) = (address >> 48, address >> 40 & 0xFF, address >> 24 & 0xFFFF, address & 0xFF_FFFF);
@@ -125,6 +154,7 @@ pub enum Answer {
     Outcome(Outcome),
     Place(Place),
     View(View),
+    Read(ReadAnswer<Record>),
 }
 
 impl Answer {
@@ -137,6 +167,7 @@ impl Answer {
             Answer::Outcome(outcome) => outcome.number,
             Answer::Place(place) => place.number,
             Answer::View(view) => view.number,
+            Answer::Read(read) => read.number,
         }
     }
 
@@ -146,6 +177,7 @@ impl Answer {
             Answer::Value(value) => Some(value.distance.into()),
             Answer::Outcome(outcome) => Some(outcome.distance.into()),
             Answer::Place(place) => (place.place == 0).then_some(place.at),
+            Answer::Read(read) => Some(read.distance.into()),
             _ => None,
         }
     }

@@ -3,6 +3,7 @@
 use hekthumar::sys::*;
 
 use crate::interface::{Answer, Call, World};
+use crate::record::{Record, Shape};
 
 /// An empty buffer is lent as a null pointer with length 0.
 fn read(bytes: &[u8]) -> (*const u8, usize) {
@@ -55,6 +56,41 @@ pub fn run(world: &mut World, call: &mut Call) -> Answer {
                 Answer::Number(hekthumar_apply(list, list_length, *account, data, length))
             }
             Call::PageView { account, page } => Answer::View(hekthumar_page_view(s, sl, c, cl, p, pl, *account, *page)),
+            Call::ReadRecord { shape, address } => read_record(world, *shape, *address),
+            Call::WriteRecord { address, record } => Answer::Outcome(write_record(world, *address, *record)),
+        }
+    }
+}
+
+fn read_record(world: &World, shape: Shape, address: u64) -> Answer {
+    let ((s, sl), (c, cl), (p, pl)) = (read(&world.snapshot), read(&world.control), read(&world.pool));
+    // SAFETY: every pointer and length is a whole vector or an empty buffer, and nothing is written.
+    unsafe {
+        match shape {
+            Shape::Buffer => answered(hekthumar_read_buffer(s, sl, c, cl, p, pl, address), Record::Buffer),
+            Shape::Event => answered(hekthumar_read_event(s, sl, c, cl, p, pl, address), Record::Event),
+            Shape::Location => answered(hekthumar_read_location(s, sl, c, cl, p, pl, address), Record::Location),
+            Shape::CallRecord => answered(hekthumar_read_call_record(s, sl, c, cl, p, pl, address), Record::CallRecord),
+            Shape::Returned => answered(hekthumar_read_returned(s, sl, c, cl, p, pl, address), Record::Returned),
+        }
+    }
+}
+
+fn answered<T>(answer: ReadAnswer<T>, record: fn(T) -> Record) -> Answer {
+    Answer::Read(ReadAnswer { record: record(answer.record), distance: answer.distance, number: answer.number })
+}
+
+fn write_record(world: &mut World, address: u64, record: Record) -> Outcome {
+    let (s, sl) = read(&world.snapshot);
+    let ((c, cl), (p, pl)) = (write(&mut world.control), write(&mut world.pool));
+    // SAFETY: every pointer and length is a whole vector or an empty buffer, and no two of them overlap.
+    unsafe {
+        match record {
+            Record::Buffer(record) => hekthumar_write_buffer(s, sl, c, cl, p, pl, address, record),
+            Record::Event(record) => hekthumar_write_event(s, sl, c, cl, p, pl, address, record),
+            Record::Location(record) => hekthumar_write_location(s, sl, c, cl, p, pl, address, record),
+            Record::CallRecord(record) => hekthumar_write_call_record(s, sl, c, cl, p, pl, address, record),
+            Record::Returned(record) => hekthumar_write_returned(s, sl, c, cl, p, pl, address, record),
         }
     }
 }

@@ -7,17 +7,20 @@ mod control;
 mod invocation;
 mod list;
 mod presence;
+mod record_mistakes;
+mod records;
 mod return_;
 pub mod snapshot;
 mod why;
 
-use hekthumar::sys::{Fields, Joined, Outcome, Place, Value, View};
+use hekthumar::sys::{Fields, Joined, Outcome, Place, ReadAnswer, Value, View};
 
 pub use bug::Bug;
 pub use why::Why;
 
 use crate::bytes::{number, MAX_DATA, PAGE};
 use crate::interface::{Answer, Call, World};
+use crate::record::{Record, Shape};
 use access::{Kind, Spot};
 use list::Part;
 use why::Refusal;
@@ -54,6 +57,8 @@ pub fn run(world: &mut World, call: &mut Call, bug: Option<Bug>) -> (Answer, Opt
         Call::ChangeList { out } => done(vm.change_list(&mut out.0)),
         Call::Apply { list, account, data } => done(list::apply(&list.0, *account, &mut data.0, bug)),
         Call::PageView { account, page } => answer(vm.page_view(*account, *page).map(view), Answer::View),
+        Call::ReadRecord { shape, address } => read_record(&vm, *shape, *address),
+        Call::WriteRecord { address, record } => answer(write_record(&mut vm, *address, record), Answer::Outcome),
     }
 }
 
@@ -176,6 +181,25 @@ fn load_span(vm: &Vm, address: u64, out: &mut [u8]) -> Result<Outcome, Refusal> 
 fn store_span(vm: &mut Vm, address: u64, bytes: &[u8]) -> Result<Outcome, Refusal> {
     vm.store(Kind::StoreSpan, address, bytes)?;
     Ok(accepted(vm, bytes.len()))
+}
+
+/// "A refused read gives a record of zeros."
+fn read_record(vm: &Vm, shape: Shape, address: u64) -> (Answer, Option<Why>) {
+    match vm.read_record(shape, address) {
+        Ok(record) => {
+            let Outcome { distance, number } = accepted(vm, shape.length());
+            (Answer::Read(ReadAnswer { record, distance, number }), None)
+        }
+        Err(Refusal { why, distance }) => {
+            let record = vm.mistaken_refused_read(shape, address).unwrap_or(Record::zeros(shape));
+            (Answer::Read(ReadAnswer { record, distance, number: why.number() }), Some(why))
+        }
+    }
+}
+
+fn write_record(vm: &mut Vm, address: u64, record: &Record) -> Result<Outcome, Refusal> {
+    vm.write_record(address, record)?;
+    Ok(accepted(vm, record.shape().length()))
 }
 
 /// An accepted access has no absent byte: its distance is 0.

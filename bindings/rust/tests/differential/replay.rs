@@ -17,10 +17,21 @@ pub enum Slip {
     LosesEqualStore,
     OverlapShared,
     LosesSpans,
+    LosesRecords,
+    /// A write told 14 is taken for an accepted one.
+    KeepsRefusedRecords,
 }
 
 impl Slip {
-    pub const ALL: [Slip; 5] = [Slip::ForgetsBegin, Slip::PlainBeginOnly, Slip::LosesEqualStore, Slip::OverlapShared, Slip::LosesSpans];
+    pub const ALL: [Slip; 7] = [
+        Slip::ForgetsBegin,
+        Slip::PlainBeginOnly,
+        Slip::LosesEqualStore,
+        Slip::OverlapShared,
+        Slip::LosesSpans,
+        Slip::LosesRecords,
+        Slip::KeepsRefusedRecords,
+    ];
 }
 
 /// "for each account with a fit entry, a plain copy of its data, apart from any other account's"
@@ -52,7 +63,7 @@ impl Replay {
     pub fn observe(&mut self, call: &Call, answer: &Answer) -> Result<(), String> {
         // "every refused one, leaves all as it is"; before the first begin frames may hold anything, and nothing is claimed.
         let counts = self.begun || self.is_begin(call);
-        if answer.number() != 0 || !counts {
+        if !self.is_accepted(call, answer) || !counts {
             return Ok(());
         }
         match (call, answer) {
@@ -62,9 +73,19 @@ impl Replay {
             (Call::StoreSpan { address, bytes }, _) => self.store(*address, &bytes.0),
             (Call::Load { address, size }, Answer::Value(loaded)) => return self.loaded(*address, &loaded.value.to_le_bytes()[..*size]),
             (Call::LoadSpan { address, out }, _) => return self.loaded(*address, &out.0),
+            // "In demand 3's history each is that one span load or store, a refused one where the number is 14."
+            (Call::WriteRecord { .. }, _) if self.slip == Some(Slip::LosesRecords) => {}
+            (Call::WriteRecord { address, record }, _) => self.store(*address, &record.bytes()),
+            (Call::ReadRecord { address, .. }, Answer::Read(read)) => return self.loaded(*address, &read.record.bytes()),
             _ => {}
         }
         Ok(())
+    }
+
+    /// "Accepted means answered with 0."
+    fn is_accepted(&self, call: &Call, answer: &Answer) -> bool {
+        let slip = self.slip == Some(Slip::KeepsRefusedRecords) && matches!(call, Call::WriteRecord { .. });
+        answer.number() == 0 || (slip && answer.number() == 14)
     }
 
     /// "where demand 3 says begin, it means either"

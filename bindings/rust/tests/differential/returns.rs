@@ -9,7 +9,7 @@ use crate::model::Why;
 
 const ORDERS: [Ordering; 3] = [Less, Equal, Greater];
 const REGIONS: [(&str, u8); 2] = [("stack", STACK), ("heap", HEAP)];
-const STORES: [&str; 3] = ["store", "store_span", "translate"];
+const STORES: [&str; 4] = ["store", "store_span", "write of a record", "translate"];
 
 /// A tag is compared with the depth. A page is counted if the caller's size takes it in.
 #[derive(Clone, Copy, Debug, PartialEq, Eq, PartialOrd, Ord)]
@@ -59,6 +59,7 @@ pub fn case(call: &Call, world: &World, damaged: bool) -> Option<Case> {
         Call::Return { .. } => returning(world),
         Call::Store { address, .. } => storing(world, "store", *address),
         Call::StoreSpan { address, .. } => storing(world, "store_span", *address),
+        Call::WriteRecord { address, .. } => storing(world, "write of a record", *address),
         Call::Translate { kind: 1 | 4, address, .. } => storing(world, "translate", *address),
         Call::Resize { region, pages } => shrinking(world, *region, *pages),
         _ => None,

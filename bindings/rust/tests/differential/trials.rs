@@ -31,7 +31,7 @@ pub fn world(contexts: usize, length: usize) -> World {
     World { snapshot, control: vec![0; TABLE_AT + 4 * FRAME_ENTRY], pool: vec![0xAA; 4 * PAGE] }
 }
 
-fn original(place: usize) -> u8 {
+pub fn original(place: usize) -> u8 {
     (place % 251) as u8
 }
 
@@ -50,6 +50,12 @@ pub fn expect_with(world: &mut World, call: Call, number: u8, distance: u64) -> 
 
 pub fn expect(world: &mut World, call: Call, number: u8) -> Call {
     expect_with(world, call, number, 0)
+}
+
+/// Gives the call, which changes no buffer, to both, which must give this answer.
+pub fn expect_answer(world: &mut World, mut call: Call, answer: Answer) {
+    assert_eq!(model::run(world, &mut call, None).0, answer, "model: {}", call.describe());
+    assert_eq!(library::run(world, &mut call), answer, "library: {}", call.describe());
 }
 
 /// Gives the call to both, each with its own copy of the buffers, which must then be those expected, and hands back the call with its lent
@@ -83,10 +89,8 @@ fn addresses() {
     {
         let fields = Answer::Fields(Fields { offset, index, segment, number: 0 });
         let joined = Answer::Joined(Joined { address, number: 0 });
-        for (mut call, answer) in [(Call::Split { address }, fields), (Call::Join { segment, index, offset }, joined)] {
-            assert_eq!(library::run(&mut world(0, DATA), &mut call), answer);
-            assert_eq!(model::run(&mut world(0, DATA), &mut call, None).0, answer);
-        }
+        expect_answer(&mut world(0, DATA), Call::Split { address }, fields);
+        expect_answer(&mut world(0, DATA), Call::Join { segment, index, offset }, joined);
     }
     let mut world = begun(0);
     expect(&mut world, Call::Resize { region: STACK, pages: 1 }, 0);

@@ -159,6 +159,61 @@ bugs! {
     PaddingHandedOver,
     ProgramHandedOver,
 
+    // Records: their bytes.
+    PointerAndLengthSwapped,
+    LineAndColumnSwapped,
+    EventBuffersSwapped,
+    /// The second and the third.
+    CallBuffersSwapped,
+    /// After the buffer.
+    DiscriminantLast,
+    RecordsBigEndian,
+    PointersCutTo48Bits,
+    LengthsCutTo32Bits,
+
+    // Records: the access.
+    /// As if the struct were filled up to the next multiple of 16.
+    LocationOf32Bytes,
+    RecordsAligned,
+    CrossingRecordToldAbsent,
+    RecordsLoseDistance,
+    /// 7 where a span store would be told it.
+    ReadAsksLeaveToStore,
+    /// A span load for each field, so that a record may cross a page.
+    ReadByFields,
+    /// A span store for each field, so that some are written though a later one is refused.
+    WrittenByFields,
+    /// 3 where a pointer in the record has upper bits.
+    ReadChecksPointers,
+    WriteChecksPointers,
+    /// One told 14.
+    RefusedReadGivesBytes,
+
+    // Records: the discriminant.
+    AnyDiscriminantRead,
+    AnyDiscriminantWritten,
+    /// The low 8 bits alone.
+    ReadDiscriminantAsByte,
+    ReadDiscriminantAs32Bits,
+    WrittenDiscriminantAsByte,
+    WrittenDiscriminantAs32Bits,
+    /// Its 8 bytes are loaded and asked before the others are loaded.
+    DiscriminantReadFirst,
+    // A write told 14 where this is right: the first 1, 3, 4, the entry's 1, 7 by the row, 6, 13, the page's 1, 7 by tag, 8.
+    DiscriminantBeforeBuffers,
+    DiscriminantBeforeUpperBits,
+    DiscriminantBeforeSegment,
+    DiscriminantBeforeEntry,
+    DiscriminantBeforePermission,
+    DiscriminantBeforeCrossing,
+    DiscriminantBeforePresence,
+    DiscriminantBeforeClaim,
+    DiscriminantBeforeTag,
+    DiscriminantBeforeFrame,
+    // A write told 14 that changes something all the same.
+    WrongDiscriminantWritten,
+    WrongDiscriminantTakesFrame,
+
     // Regions.
     TagMustExceedDepth,
     TagMustEqualDepth,

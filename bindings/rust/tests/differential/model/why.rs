@@ -34,10 +34,12 @@ pub enum Why {
     ListLiveOfData,
     NotPresent,
     NoLiveBytes,
+    Discriminant,
 }
 
 impl Why {
-    /// The table of "Numbers given back", and "A byte not present, and a view of a page with no live bytes, become 13".
+    /// The table of "Numbers given back", "A byte not present, and a view of a page with no live bytes, become 13", and "discriminant 0
+    /// or 1, any other refused with 14".
     pub fn number(self) -> u8 {
         use Why::*;
         match self {
@@ -55,6 +57,7 @@ impl Why {
             ShortOutput => 11,
             ListLayout | ListOrder | ListLiveCount | ListLiveOfData => 12,
             NotPresent | NoLiveBytes => 13,
+            Discriminant => 14,
         }
     }
 }

@@ -3,7 +3,7 @@ use mathlib.Core.Path.{refl, ap, _∙_}
 use borrow.Author.Needs.{needs}
 use Rattle.hekthumar.specs.Answers.{valueAnswer}
 use Rattle.hekthumar.specs.Steps.{stepOf}
-use Rattle.hekthumar.proofs.Near.{fetch-near}
+use Rattle.access.proofs.Near.{fetch-near}
 use Rattle.hekthumar.proofs.accesses.hekthumar_fetch.Statement.{statement}
 use Rattle.hekthumar.proofs.accesses.hekthumar_fetch.Tie as tie
 

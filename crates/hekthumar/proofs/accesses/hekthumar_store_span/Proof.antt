@@ -4,7 +4,7 @@ use mathlib.Core.Path.{ap, _∙_}
 use borrow.Author.Needs.{needs}
 use Rattle.hekthumar.specs.Answers.{outcomeAnswer}
 use Rattle.hekthumar.specs.Steps.{stepOf}
-use Rattle.hekthumar.proofs.Near.{store-near}
+use Rattle.access.proofs.Near.{store-near}
 use Rattle.hekthumar.proofs.accesses.hekthumar_store_span.Statement.{statement}
 use Rattle.hekthumar.proofs.accesses.hekthumar_store_span.Tie as tie
 

@@ -1,0 +1,6 @@
+pub mod Layout
+pub mod Records
+pub mod Calls
+pub mod Answers
+pub mod Back
+pub mod RoundTrip
