@@ -3,7 +3,7 @@
  * The host lends three byte buffers and calls. The library keeps nothing of its own: no heap, no global, no copy that was not asked for.
  *
  *   snapshot  read only: account entries, block contexts, the transaction, the accounts' data
- *   control   the VM's control block: header, 17 shadow records, the frame table; length 4,504 + 8 F
+ *   control   the VM's control block: header, 17 shadow records, the frame table; length 4,512 + 8 F
  *   pool      F frames of 4,096 bytes, F being 0 to 1,024
  *
  * A buffer is a pointer and a length; a null pointer with length 0 is an empty buffer. A buffer that a call writes overlaps no other buffer of
@@ -12,7 +12,7 @@
  *
  *    0  done                                    7  not permitted
  *    1  a buffer, header, entry is not valid    8  too few free frames
- *    2  unknown kind, wrong length or pages     9  call at 16 invocations, return at 1
+ *    2  wrong kind, length, edition or pages    9  call at 16 invocations, return at 1
  *    3  upper 16 bits set, offset too large    10  region above 4,096 pages
  *    4  no such segment, account or program    11  output too short
  *    5  misaligned                             12  bad change list
@@ -43,6 +43,10 @@ extern "C" {
 #define HEKTHUMAR_STACK 2
 #define HEKTHUMAR_HEAP 3
 
+/* Editions, for hekthumar_begin. */
+#define HEKTHUMAR_OLDER 1 /* a program executes from its account's data */
+#define HEKTHUMAR_NEWER 2 /* a program executes from a segment of its own */
+
 /* Places, in hekthumar_place. */
 #define HEKTHUMAR_NOWHERE 0     /* refused */
 #define HEKTHUMAR_IN_SNAPSHOT 1 /* at: from the snapshot's start */
@@ -64,7 +68,7 @@ extern "C" {
 #define HEKTHUMAR_TYPE_HEAP 7
 #define HEKTHUMAR_INDEX_TRANSACTION 1
 #define HEKTHUMAR_INDEX_SHADOW 2
-#define HEKTHUMAR_INDEX_PROGRAM 3
+#define HEKTHUMAR_INDEX_PROGRAM 3 /* no segment in the older edition */
 #define HEKTHUMAR_INDEX_CONTEXTS 4
 
 /* The address of fields that are in range, as a constant; hekthumar_join tests the offset. */
@@ -95,7 +99,7 @@ extern "C" {
 /* Control block and pool. */
 #define HEKTHUMAR_MAX_FRAMES 1024
 #define HEKTHUMAR_MAX_INVOCATIONS 16
-#define HEKTHUMAR_SHADOW_AT 16   /* the header's length; record 0 starts here, and is no invocation's */
+#define HEKTHUMAR_SHADOW_AT 24   /* the header's length; record 0 starts here, and is no invocation's */
 #define HEKTHUMAR_REGISTERS_AT 8 /* in a shadow record */
 #define HEKTHUMAR_REGISTERS 256
 #define HEKTHUMAR_SHADOW (HEKTHUMAR_REGISTERS_AT + HEKTHUMAR_REGISTERS)
@@ -224,15 +228,16 @@ hekthumar_address hekthumar_join(uint8_t type, uint16_t index, uint32_t offset);
 /* The fields of an address below 2^48; else 3 and zero fields. */
 hekthumar_fields hekthumar_split(uint64_t address);
 
-/* Begins a program with one stack page: hekthumar_begin_pages with 1. */
+/* Begins a program of an edition with one stack page: hekthumar_begin_pages with 1. */
 uint8_t hekthumar_begin(const uint8_t *snapshot, size_t snapshot_len, uint8_t *control, size_t control_len, uint8_t *pool, size_t pool_len,
-                        uint16_t program);
+                        uint16_t program, uint32_t edition);
 
-/* Begins a program with 0 or 1 stack pages: writes the whole control block, reads no byte of it or of the pool. With 1, frame 0 is taken for
- * stack page 4,095, with tag 0, and its 4,096 bytes are zeroed; every other byte of the pool stays. With 0 the pool stays whole. Refusals: 1
- * for the snapshot and both lengths, 2 for more than 1 page, then 4, 1, 4 for the program's account, last 8 for 1 page and no frame. */
+/* Begins a program with 0 or 1 stack pages: writes the whole control block, reads no byte of it or of the pool. The edition holds until the
+ * next begin, for every program called. With 1 page, frame 0 is taken for stack page 4,095, with tag 0, and its 4,096 bytes are zeroed; every
+ * other byte of the pool stays. With 0 the pool stays whole. Refusals: 1 for the snapshot and both lengths, 2 for another edition or more than
+ * 1 page, then 4, 1, 4 for the program's account, last 8 for 1 page and no frame. */
 uint8_t hekthumar_begin_pages(const uint8_t *snapshot, size_t snapshot_len, uint8_t *control, size_t control_len, uint8_t *pool,
-                              size_t pool_len, uint16_t program, size_t pages);
+                              size_t pool_len, uint16_t program, uint32_t edition, size_t pages);
 
 /* Where an access of this kind would go, and the number that it would give. Changes nothing. */
 hekthumar_place hekthumar_translate(const uint8_t *snapshot, size_t snapshot_len, const uint8_t *control, size_t control_len,
@@ -242,7 +247,8 @@ hekthumar_place hekthumar_translate(const uint8_t *snapshot, size_t snapshot_len
 hekthumar_value hekthumar_load(const uint8_t *snapshot, size_t snapshot_len, const uint8_t *control, size_t control_len,
                                const uint8_t *pool, size_t pool_len, uint64_t address, size_t size);
 
-/* Fetches 1, 2, 4 or 8 bytes of the current program. */
+/* Fetches 1, 2, 4 or 8 bytes of the current program. In the newer edition they are its original data, in type 0 with index 3; in the older
+ * they are its account's data, in type 3, and it reads what a load reads. No other segment permits a fetch. */
 hekthumar_value hekthumar_fetch(const uint8_t *snapshot, size_t snapshot_len, const uint8_t *control, size_t control_len,
                                 const uint8_t *pool, size_t pool_len, uint64_t address, size_t size);
 

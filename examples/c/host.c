@@ -25,7 +25,7 @@ int main(void) {
 
 #define LENT snapshot, sizeof snapshot, control, sizeof control, pool, sizeof pool
     const uint64_t page = HEKTHUMAR_ADDRESS(HEKTHUMAR_TYPE_DATA, 1, 0x1000);
-    int refused = hekthumar_begin(LENT, 0); /* takes a frame for a stack page */
+    int refused = hekthumar_begin(LENT, 0, HEKTHUMAR_NEWER); /* takes a frame for a stack page */
     refused += hekthumar_store(LENT, page + 4, 1, 0x11).number;
     refused += hekthumar_store(LENT, page + 8, 1, 0x22).number;
     refused += hekthumar_change_list(LENT, list, sizeof list);

@@ -14,19 +14,20 @@ const uint8_t *slot_data(void) {
     return data;
 }
 
-bool begin_guest(struct buffers *b, struct bytes guest, struct bytes transaction) {
+bool begin_guest(struct buffers *b, struct guest guest, struct bytes transaction) {
     static const uint8_t foreign_data[PAGE_BYTES];
+    const uint16_t writable = HEKTHUMAR_EXISTS | HEKTHUMAR_WRITABLE;
     const struct account accounts[ACCOUNTS] = {
-        [PROGRAM_ACCOUNT] = {EXISTS, PROGRAM_ACCOUNT, guest},
-        [SLOT_ACCOUNT] = {EXISTS | WRITABLE, PROGRAM_ACCOUNT, {slot_data(), SLOT_ACCOUNT_BYTES}},
-        [FOREIGN_ACCOUNT] = {EXISTS | WRITABLE, FOREIGN_PROGRAM, {foreign_data, sizeof foreign_data}},
-        [FOREIGN_PROGRAM] = {EXISTS, FOREIGN_PROGRAM, {NULL, 0}},
+        [SLOT_ACCOUNT] = {writable, PROGRAM_ACCOUNT, {slot_data(), SLOT_ACCOUNT_BYTES}},
+        [FOREIGN_ACCOUNT] = {writable, FOREIGN_PROGRAM, {foreign_data, sizeof foreign_data}},
+        [FOREIGN_PROGRAM] = {HEKTHUMAR_EXISTS, FOREIGN_PROGRAM, {NULL, 0}},
+        [PROGRAM_ACCOUNT] = {HEKTHUMAR_EXISTS, PROGRAM_ACCOUNT, guest.binary},
     };
     if (!snapshot_build(b, accounts, ACCOUNTS, transaction)) {
         fprintf(stderr, "the guest is too long for the snapshot\n");
         return false;
     }
-    uint8_t number = begin_program(b, PROGRAM_ACCOUNT);
+    uint8_t number = begin_program(b, PROGRAM_ACCOUNT, guest.edition);
     if (number != 0) fprintf(stderr, "begin refused with %u\n", (unsigned)number);
     return number == 0;
 }

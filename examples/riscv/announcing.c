@@ -14,12 +14,12 @@ static bool print_answers(const struct buffers *b, uint64_t without) {
     return ok == OK && err == ERR && without == WITHOUT;
 }
 
-bool run_announcing(struct bytes guest, FILE *trace) {
+bool run_announcing(struct guest guest, FILE *trace) {
     static struct buffers b;
     static uint8_t list[CHANGES_MAX];
     puts("announcing: the guest passes events to its host");
     if (!begin_guest(&b, guest, (struct bytes){NULL, 0})) return false;
-    struct machine m = machine_run(&b, trace);
+    struct machine m = machine_run(&b, guest.start, trace);
     if (m.fault != NULL) return fprintf(stderr, "fault: %s\n", m.fault), false;
     if (m.number != 0) return print_refusal(&m), false;
     bool good = print_answers(&b, m.status) && m.events == TAKEN;

@@ -11,7 +11,7 @@ static const struct request requests[] = {{129, 22000, "Minh"}, {133, 40000, "La
 
 enum { REQUESTS = 3, ACCEPTED = 2, WEIGHT = 22000 + 40000, REQUEST_BYTES = 24 };
 
-static struct bytes transaction(void) {
+struct bytes booking_transaction(void) {
     static uint8_t bytes[8 + REQUEST_BYTES * REQUESTS];
     put_number(bytes, 8, REQUESTS);
     for (size_t i = 0; i < REQUESTS; i++) {
@@ -44,10 +44,9 @@ static bool holds_both(const uint8_t *applied) {
     return memcmp(plain, applied, sizeof plain) == 0;
 }
 
-static bool apply_changes(const uint8_t *list) {
-    uint8_t applied[SLOT_ACCOUNT_BYTES];
-    memcpy(applied, slot_data(), sizeof applied);
-    uint8_t number = hekthumar_apply(list, CHANGES_MAX, SLOT_ACCOUNT, applied, sizeof applied);
+static bool apply_changes(const uint8_t *list, uint8_t *applied) {
+    memcpy(applied, slot_data(), SLOT_ACCOUNT_BYTES);
+    uint8_t number = hekthumar_apply(list, CHANGES_MAX, SLOT_ACCOUNT, applied, SLOT_ACCOUNT_BYTES);
     printf("  applied to a copy of the slot account with number %u:\n", (unsigned)number);
     print_slots(applied);
     bool both = number == 0 && holds_both(applied);
@@ -55,16 +54,17 @@ static bool apply_changes(const uint8_t *list) {
     return both;
 }
 
-bool run_bookings(struct bytes guest, FILE *trace) {
+bool run_bookings(struct guest guest, uint8_t *slots, FILE *trace) {
     static struct buffers b;
     static uint8_t list[CHANGES_MAX];
-    printf("booking: %d requests in the transaction\n", REQUESTS);
-    if (!begin_guest(&b, guest, transaction())) return false;
-    struct machine m = machine_run(&b, trace);
+    const char *edition = guest.edition == HEKTHUMAR_OLDER ? "older" : "newer";
+    printf("booking in the %s edition, from 0x%012" PRIx64 ": %d requests in the transaction\n", edition, guest.start, REQUESTS);
+    if (!begin_guest(&b, guest, booking_transaction())) return false;
+    struct machine m = machine_run(&b, guest.start, trace);
     if (m.fault != NULL) return fprintf(stderr, "fault: %s\n", m.fault), false;
     if (m.number != 0) return print_refusal(&m), false;
     hekthumar_value tally = hekthumar_load(LENT(&b), HEAP, 8);
     printf("  the guest has booked %" PRIu64 "; the tally in its heap is %" PRIu64 " kg\n", m.status, tally.value);
     int pages = print_changes(&b, list);
-    return pages == 1 && apply_changes(list) && m.status == ACCEPTED && tally.value == WEIGHT;
+    return pages == 1 && apply_changes(list, slots) && m.status == ACCEPTED && tally.value == WEIGHT;
 }

@@ -15,8 +15,8 @@ struct window {
     uint64_t start, length;
 };
 
-static bool in_program(uint64_t address) {
-    return address - PROGRAM < SEGMENT_BYTES;
+static bool in_program(const struct machine *m, uint64_t address) {
+    return address - m->start < SEGMENT_BYTES;
 }
 
 static void on_code(uc_engine *engine, uint64_t pc, uint32_t size, void *user) {
@@ -35,7 +35,7 @@ static void on_memory(uc_engine *engine, uc_mem_type type, uint64_t address, int
     if (m->stopped) return;
     if (type == UC_MEM_WRITE)
         route_store(m, address, (size_t)size, (uint64_t)value);
-    else if (route_load(m, address, (size_t)size) && in_program(address))
+    else if (route_load(m, address, (size_t)size) && in_program(m, address))
         compare_held(m);
 }
 
@@ -116,7 +116,7 @@ static size_t fetch_page(struct machine *m, uint64_t address, uint8_t *page) {
 
 static uc_err map_program(struct machine *m) {
     uint8_t page[PAGE_BYTES];
-    for (uint64_t at = PROGRAM; in_program(at) && fetch_page(m, at, page) > 0; at += PAGE_BYTES) {
+    for (uint64_t at = m->start; in_program(m, at) && fetch_page(m, at, page) > 0; at += PAGE_BYTES) {
         uc_err e = uc_mem_map(m->engine, at, PAGE_BYTES, UC_PROT_READ | UC_PROT_EXEC);
         if (e == UC_ERR_OK) e = uc_mem_write(m->engine, at, page, PAGE_BYTES);
         if (e != UC_ERR_OK) return e;
@@ -141,17 +141,17 @@ static uc_err add_hooks(struct machine *m) {
 }
 
 static uc_err run(struct machine *m) {
-    const uint64_t after = PROGRAM + SEGMENT_BYTES;
-    struct window windows[2] = {{m, 0, PROGRAM}, {m, after, (UINT64_C(1) << 48) - after}};
+    const uint64_t after = m->start + SEGMENT_BYTES;
+    struct window windows[2] = {{m, 0, m->start}, {m, after, (UINT64_C(1) << 48) - after}};
     uc_err e = map_program(m);
     for (int i = 0; i < 2 && e == UC_ERR_OK; i++)
         e = uc_mmio_map(m->engine, windows[i].start, windows[i].length, on_io_read, &windows[i], on_io_write, &windows[i]);
     if (e == UC_ERR_OK) e = add_hooks(m);
-    return e == UC_ERR_OK ? uc_emu_start(m->engine, PROGRAM, UINT64_MAX, 0, 0) : e;
+    return e == UC_ERR_OK ? uc_emu_start(m->engine, m->start, UINT64_MAX, 0, 0) : e;
 }
 
-struct machine machine_run(struct buffers *buffers, FILE *trace) {
-    struct machine m = {.buffers = buffers, .trace = trace};
+struct machine machine_run(struct buffers *buffers, uint64_t start, FILE *trace) {
+    struct machine m = {.buffers = buffers, .trace = trace, .start = start};
     uc_err e = uc_open(UC_ARCH_RISCV, UC_MODE_RISCV64, &m.engine);
     if (e == UC_ERR_OK) {
         e = run(&m);

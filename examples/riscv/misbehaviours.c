@@ -19,20 +19,20 @@ static const struct {
     [RUN_PAST_PROGRAM] = {"jumps past the end of its program", 13},
 };
 
-static bool run_one(struct bytes guest, uint8_t trial, FILE *trace) {
+static bool run_one(struct guest guest, uint8_t trial, FILE *trace) {
     static struct buffers b;
     static uint8_t list[CHANGES_MAX];
     const uint8_t transaction[8] = {trial};
     printf("misbehaviour %u: %s\n", (unsigned)trial, trials[trial].what);
     if (!begin_guest(&b, guest, (struct bytes){transaction, sizeof transaction})) return false;
-    struct machine m = machine_run(&b, trace);
+    struct machine m = machine_run(&b, guest.start, trace);
     if (m.fault != NULL) return fprintf(stderr, "fault: %s\n", m.fault), false;
     if (m.number == 0) return printf("  NOT refused\n"), false;
     print_refusal(&m);
     return print_changes(&b, list) == 0 && m.number == trials[trial].number;
 }
 
-bool run_misbehaviours(struct bytes guest, FILE *trace) {
+bool run_misbehaviours(struct guest guest, FILE *trace) {
     bool all = true;
     for (uint8_t trial = 1; trial <= MISBEHAVIOURS; trial++) all &= run_one(guest, trial, trace);
     return all;

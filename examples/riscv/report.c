@@ -44,7 +44,7 @@ int print_changes(struct buffers *b, uint8_t *list) {
     int pages = (int)get_number(list, 4);
     printf("  change list: %d page%s\n", pages, pages == 1 ? "" : "s");
     for (int i = 0; i < pages; i++) {
-        const uint8_t *entry = list + 16 + 8 * i;
+        const uint8_t *entry = list + HEKTHUMAR_LIST_HEADER + HEKTHUMAR_LIST_ENTRY * i;
         printf("    account %u, page %u, %u live bytes\n", (unsigned)get_number(entry, 2), (unsigned)get_number(entry + 2, 2),
                (unsigned)get_number(entry + 4, 4));
     }

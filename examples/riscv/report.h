@@ -4,7 +4,7 @@
 
 #include "machine.h"
 
-enum { CHANGES_MAX = 16 + 4104 * FRAMES };
+enum { CHANGES_MAX = HEKTHUMAR_LIST_LENGTH(FRAMES) };
 
 /* What a number says. */
 const char *sentence(uint8_t number);

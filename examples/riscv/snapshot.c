@@ -4,7 +4,7 @@
 
 #include <string.h>
 
-enum { HEADER = 32, ENTRY = 80 };
+enum { HEADER = HEKTHUMAR_SNAPSHOT_HEADER, ENTRY = HEKTHUMAR_ACCOUNT_ENTRY };
 
 void put_number(uint8_t *at, size_t size, uint64_t value) {
     for (size_t i = 0; i < size; i++) at[i] = (uint8_t)(value >> (8 * i));
@@ -45,8 +45,8 @@ bool snapshot_build(struct buffers *b, const struct account *accounts, size_t co
     return true;
 }
 
-uint8_t begin_program(struct buffers *b, uint16_t program) {
-    uint8_t number = hekthumar_begin(LENT(b), program);
+uint8_t begin_program(struct buffers *b, uint16_t program, uint32_t edition) {
+    uint8_t number = hekthumar_begin(LENT(b), program, edition);
     if (number == 0) number = hekthumar_resize(LENT(b), HEKTHUMAR_HEAP, HEAP_PAGES);
     return number;
 }

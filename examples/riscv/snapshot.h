@@ -11,8 +11,8 @@ enum { FRAMES = 8, SNAPSHOT_MAX = 65536 };
 struct buffers {
     uint8_t snapshot[SNAPSHOT_MAX];
     size_t snapshot_len;
-    uint8_t control[4504 + 8 * FRAMES];
-    uint8_t pool[4096 * FRAMES];
+    uint8_t control[HEKTHUMAR_CONTROL_LENGTH(FRAMES)];
+    uint8_t pool[HEKTHUMAR_POOL_LENGTH(FRAMES)];
 };
 
 /* The buffers as the first six arguments of a call. */
@@ -23,10 +23,8 @@ struct bytes {
     size_t length;
 };
 
-enum { EXISTS = 1, WRITABLE = 2 };
-
 struct account {
-    uint16_t flags;
+    uint16_t flags; /* HEKTHUMAR_EXISTS, HEKTHUMAR_WRITABLE */
     uint16_t owner; /* account number of the owning program */
     struct bytes data;
 };
@@ -38,8 +36,8 @@ uint64_t get_number(const uint8_t *at, size_t size);
 /* Lays out accounts and transaction as a snapshot without block contexts; false if it is too long for the buffer. */
 bool snapshot_build(struct buffers *b, const struct account *accounts, size_t count, struct bytes transaction);
 
-/* Begins a program, with the stack page that begin gives, and gives it its heap; the library's number. */
-uint8_t begin_program(struct buffers *b, uint16_t program);
+/* Begins a program of an edition, with the stack page that begin gives, and gives it its heap; the library's number. */
+uint8_t begin_program(struct buffers *b, uint16_t program, uint32_t edition);
 
 /* The current invocation, from its shadow record. */
 struct invocation {

@@ -51,12 +51,12 @@ static bool free_list(struct buffers *b) {
     return number == 0 && frames == HEAP_PAGES + 1;
 }
 
-bool run_weighing(struct bytes guest, FILE *trace) {
+bool run_weighing(struct guest guest, FILE *trace) {
     static struct buffers b;
     static uint8_t list[CHANGES_MAX];
     printf("weighing: %d weights in the transaction\n", WEIGHTS);
     if (!begin_guest(&b, guest, transaction())) return false;
-    struct machine m = machine_run(&b, trace);
+    struct machine m = machine_run(&b, guest.start, trace);
     if (m.fault != NULL) return fprintf(stderr, "fault: %s\n", m.fault), false;
     if (m.number != 0) return print_refusal(&m), false;
     bool good = print_pages(&b);

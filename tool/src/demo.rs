@@ -5,7 +5,7 @@ use crate::answer::Answer;
 use crate::failure::Failure;
 use crate::output::Output;
 use crate::session::{pages, Session};
-use hekthumar::{account_data, Account, Address, ChangeList, SnapshotBuilder, PAGE};
+use hekthumar::{account_data, Account, Address, ChangeList, Edition, SnapshotBuilder, PAGE};
 
 /// The booking program and its slots.
 const PROGRAM: u16 = 0;
@@ -17,7 +17,7 @@ pub fn demo(out: &mut Output) -> Result<(), Failure> {
     let mut session = Session::new(snapshot.clone());
     session.lend(4);
     out.line(INTRODUCTION)?;
-    step(out, "begin 0", session.begin(PROGRAM, None))?;
+    step(out, "begin 0", session.begin(PROGRAM, None, Edition::Newer))?;
     book(&mut session, out)?;
     out.line(POOL)?;
     out.lines(session.map().lines)?;

@@ -4,6 +4,7 @@ mod answer;
 mod apply;
 mod command;
 mod demo;
+mod edition;
 mod failure;
 mod files;
 mod numbers;

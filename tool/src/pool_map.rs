@@ -1,5 +1,6 @@
 //! A map of the pool, a character to a frame, and a line for each frame in use.
 
+use crate::rules::former::made_before_editions;
 use crate::world::COPY;
 use hekthumar::inspect::{frame_entries, FrameEntry};
 use hekthumar::Region;
@@ -13,14 +14,19 @@ pub fn lines(control: &[u8]) -> Vec<String> {
     let rows = marks.as_bytes().chunks(64).enumerate();
     let mut lines = vec!["pool (. free, A copy of an account's page, S stack, H heap, ? other use)".to_string()];
     lines.extend(rows.map(|(row, marks)| format!("  {:4} {}", 64 * row, String::from_utf8_lossy(marks))));
-    let used = frame_entries(control).enumerate().filter(|(_, entry)| entry.usage != 0);
+    let used = entries(control).enumerate().filter(|(_, entry)| entry.usage != 0);
     lines.extend(used.map(|(frame, entry)| format!("  frame {frame}: {}", holds(entry))));
     lines
 }
 
 /// A character for each frame.
 pub fn marks(control: &[u8]) -> String {
-    frame_entries(control).map(|entry| mark(entry.usage)).collect()
+    entries(control).map(|entry| mark(entry.usage)).collect()
+}
+
+/// The entries of the frames. Those of a control block made before editions lie elsewhere, and are left out.
+fn entries(control: &[u8]) -> impl Iterator<Item = FrameEntry> + '_ {
+    frame_entries(if made_before_editions(control) { &[] } else { control })
 }
 
 fn mark(usage: u8) -> char {

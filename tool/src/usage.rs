@@ -33,8 +33,9 @@ pub fn commands() -> String {
 pub fn whole() -> String {
     let mut text = format!("{}\n{SHOW}{SCRIPT}", commands());
     for form in &FORMS {
-        let _ = writeln!(text, "  {:<30} {}", format!("{} {}", form.name, form.words), form.about);
+        let _ = writeln!(text, "  {:<31} {}", format!("{} {}", form.name, form.words), form.about);
     }
+    text.push_str(EDITION);
     text.push_str(RECORDS);
     for record in Layout::ALL {
         let _ = writeln!(text, "  {:<11} {}  {}", record.name(), record.bytes(), record.fields());
@@ -60,6 +61,12 @@ const SCRIPT: &str = "
 A script has one statement to a line. Blank lines and what follows # are skipped. Numbers are
 decimal, or hexadecimal after 0x, with _ between digits where it helps. Nothing is carried out
 unless every line can be read.
+";
+
+const EDITION: &str = "
+EDITION is older or newer; newer otherwise. In the newer a program is fetched from 0x000003000000 on. In
+the older that is no segment, and a program is fetched from its account's data, from 0x03XXXX000000 on,
+where XXXX is its account's number in hexadecimal digits.
 ";
 
 const RECORDS: &str = "

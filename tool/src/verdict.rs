@@ -3,7 +3,9 @@
 use crate::world::World;
 use hekthumar::inspect::{ListEntry, ListHeader};
 use hekthumar::layout::{ACCOUNT_ENTRY, MAX_ACCOUNTS, MAX_DATA, MAX_FRAMES, PAGE, SNAPSHOT_HEADER};
-use hekthumar::{apply, change_list_len, control_len, Account, Address, ChangeList, Kind, Memory, Refusal, Region, SnapshotBuilder};
+use hekthumar::{
+    apply, change_list_len, control_len, Account, Address, ChangeList, Edition, Kind, Memory, Refusal, Region, SnapshotBuilder,
+};
 use std::ops::Range;
 
 /// Whether a snapshot is valid. Begin asks for that first, and then for the account, which no snapshot has.
@@ -16,16 +18,16 @@ pub fn account_valid(snapshot: &[u8], account: u16) -> bool {
     begin_alone(snapshot, account) != Err(Refusal::Invalid)
 }
 
-/// Begin over buffers without a frame, and so without a stack page.
+/// Begin over buffers without a frame, and so without a stack page. It asks the same in either edition.
 fn begin_alone(snapshot: &[u8], program: u16) -> Result<(), Refusal> {
-    Memory::new(snapshot, &mut vec![0; control_len(0)], &mut []).begin_with_pages(program, 0)
+    Memory::new(snapshot, &mut vec![0; control_len(0)], &mut []).begin_with_pages(program, Edition::Newer, 0)
 }
 
 /// Whether a pool is valid with some control block.
 pub fn pool_valid(pool: &[u8]) -> bool {
     let snapshot = SnapshotBuilder::new().build().expect("a snapshot of nothing keeps every limit");
     let mut control = vec![0; control_len(pool.len() / PAGE)];
-    Memory::new(&snapshot, &mut control, &mut pool.to_vec()).begin_with_pages(u16::MAX, 0) != Err(Refusal::Invalid)
+    Memory::new(&snapshot, &mut control, &mut pool.to_vec()).begin_with_pages(u16::MAX, Edition::Newer, 0) != Err(Refusal::Invalid)
 }
 
 /// Whether the three buffers are valid together. Every access asks for that first, and then for its length, which no access has.

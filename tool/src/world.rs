@@ -2,7 +2,7 @@
 
 use hekthumar::inspect::{frame_entries, AccountEntry, ControlHeader, FrameEntry, Invocation, SnapshotHeader};
 use hekthumar::layout::PAGE;
-use hekthumar::Region;
+use hekthumar::{Edition, Region};
 
 /// The use byte of a frame that holds a copy of an account's page.
 pub const COPY: u8 = 1;
@@ -29,6 +29,11 @@ impl<'a> World<'a> {
     /// Length of an account's data: 0 if it does not exist.
     pub fn data_length(self, account: u16) -> usize {
         self.account(account).filter(AccountEntry::exists).map_or(0, |entry| entry.length as usize)
+    }
+
+    /// The edition, if it is one of the two.
+    pub fn edition(self) -> Option<Edition> {
+        ControlHeader::read(self.control).and_then(|header| Edition::from_number(header.edition))
     }
 
     /// How many invocations are live.

@@ -6,7 +6,7 @@ mod data;
 use common::folder::Folder;
 use common::tool::{self, Came};
 use data::bytes::{patched, with_word, words};
-use data::control::{control, entry, record, UNUSED};
+use data::control::{control, entry, older, record, UNUSED};
 use data::layout::{account_at, control_length, COPY, HEAP, LENGTH, PAGE, STACK};
 use data::{list, snapshot};
 use std::collections::BTreeSet;
@@ -35,6 +35,7 @@ fn scripts() -> Vec<Script> {
         begin(),
         heap(),
         records(),
+        editions(),
         inspect(),
         bookings(),
     ]
@@ -98,6 +99,21 @@ fn records() -> Script {
         ("records-pool", [stack, heap, copy, vec![0; PAGE]].concat()),
     ];
     Script { name: "records", files: vec![("snapshot", snapshot::trials(1, &snapshot::slots()))], left }
+}
+
+/// What begin and the same calls leave in each edition: their control blocks differ in the edition, pools and lists do not.
+fn editions() -> Script {
+    let stack = entry(STACK, 0, 0, 4_095);
+    let begun = control(&[record(0, 1, 0, &[])], &[stack, UNUSED, UNUSED, UNUSED]);
+    let called = control(&[record(0, 1, 1, &[])], &[stack, entry(HEAP, 0, 0, 0), entry(COPY, 0, 1, 0), UNUSED]);
+    let copy = patched(&[snapshot::code(), vec![0; 84]].concat(), 1, &[0xee]);
+    let pool = patched(&patched(&[0; 4 * PAGE], 0, &[42]), 2 * PAGE, &copy);
+    let list = list::list(&[(1, 0, &copy)]);
+    let older =
+        [("older-begun", older(&begun)), ("older-control", older(&called)), ("older-pool", pool.clone()), ("older-list", list.clone())];
+    let newer = [("newer-begun", begun), ("newer-control", called), ("newer-pool", pool), ("newer-list", list)];
+    let files = vec![("snapshot", snapshot::trials(1, &snapshot::slots()))];
+    Script { name: "editions", files, left: older.into_iter().chain(newer).collect() }
 }
 
 /// Account 3 has no data, so that its entry is valid until the script damages it.

@@ -11,7 +11,7 @@ fn main() -> Result<(), Box<dyn std::error::Error>> {
     // Eight frames: room for eight pages that are copies, stack or heap. Begin takes one for the stack.
     let (mut control, mut pool) = (vec![0; control_len(8)], vec![0; pool_len(8)]);
     let mut memory = Memory::new(&snapshot, &mut control, &mut pool);
-    memory.begin(program)?;
+    memory.begin(program, Edition::Newer)?;
 
     // Two stores on one page: the first takes a copy of it, the second writes to that copy.
     memory.store_u8(Address::data(slots, 0x1004)?, 0x11)?;

@@ -48,7 +48,7 @@ impl Address {
     }
 
     /// The segment that the address lies in. [`Refusal::OutOfRange`] as for [`Address::fields`], [`Refusal::NoSegment`] if no segment
-    /// has this type and index. Whether an account exists is not asked.
+    /// has this type and index. Neither is it asked whether an account exists, nor whether the edition has [`Segment::Program`].
     pub fn segment(self) -> Result<Segment, Refusal> {
         Segment::of(self.fields()?)
     }
@@ -69,7 +69,8 @@ impl Address {
         Segment::ShadowStack.at(offset)
     }
 
-    /// An address in the current program.
+    /// An address in the current program's segment, which only the [newer](crate::Edition::Newer) edition has. In the older one a program is
+    /// at [`Address::data`] of its account.
     pub fn program(offset: u32) -> Result<Address, Refusal> {
         Segment::Program.at(offset)
     }

@@ -12,10 +12,11 @@
 //! let snapshot = builder.build().unwrap();
 //! let (mut control, mut pool) = (vec![0; control_len(2)], vec![0; pool_len(2)]);
 //! let mut memory = Memory::new(&snapshot, &mut control, &mut pool);
-//! memory.begin(program)?;
+//! memory.begin(program, Edition::Newer)?;
 //! memory.resize(Region::Heap, 1)?;
 //!
-//! assert_eq!(ControlHeader::read(&control).unwrap().invocations, 1);
+//! let header = ControlHeader::read(&control).unwrap();
+//! assert_eq!((header.invocations, Edition::from_number(header.edition)), (1, Some(Edition::Newer)));
 //! let current = Invocation::read(&control, 1).unwrap();
 //! assert_eq!((current.stack, current.heap), (1, 1));
 //! let uses: Vec<u8> = frame_entries(&control).map(|entry| entry.usage).collect();
@@ -112,13 +113,17 @@ pub struct ControlHeader {
     pub shadow_at: u32,
     /// Offset of the table of frames.
     pub table_at: u32,
+    /// The edition: in a valid header a number that [`Edition::from_number`](crate::Edition::from_number) knows.
+    pub edition: u32,
+    /// 0 in a valid header.
+    pub zero: u32,
 }
 
 impl ControlHeader {
     /// The header at the start of a control block.
     pub fn read(control: &[u8]) -> Option<ControlHeader> {
-        let [frames, invocations, shadow_at, table_at] = words(control)?;
-        Some(ControlHeader { frames, invocations, shadow_at, table_at })
+        let [frames, invocations, shadow_at, table_at, edition, zero] = words(control)?;
+        Some(ControlHeader { frames, invocations, shadow_at, table_at, edition, zero })
     }
 }
 

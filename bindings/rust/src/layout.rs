@@ -33,8 +33,8 @@ pub const MAX_DATA: usize = SEGMENT;
 /// The longest snapshot.
 pub const MAX_SNAPSHOT: usize = 1 << 31;
 
-/// Bytes of the control block's header: four numbers of 32 bits.
-pub const CONTROL_HEADER: usize = 16;
+/// Bytes of the control block's header: six numbers of 32 bits.
+pub const CONTROL_HEADER: usize = 24;
 
 /// Bytes of the record of an invocation in the shadow stack.
 pub const SHADOW_RECORD: usize = 264;

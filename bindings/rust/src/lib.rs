@@ -16,6 +16,8 @@
 //!
 #![doc = concat!("```\n", include_str!("../examples/host.rs"), "```")]
 //!
+//! Programs of two [editions](Edition) of the memory layout run over the same buffers: begin says which it is.
+//!
 //! A program passes data to its host by [records](Buffer) in its memory: [`Memory`] reads and writes each as a whole.
 //!
 //! Every call accepts every input and answers. What it does not allow is an `Err` with a [`Refusal`], and then no lent byte has
@@ -27,6 +29,7 @@
 mod account;
 mod address;
 mod changes;
+mod edition;
 pub mod inspect;
 pub mod layout;
 mod memory;
@@ -42,6 +45,7 @@ mod typed;
 pub use account::Account;
 pub use address::{Address, Fields};
 pub use changes::{apply, Change, ChangeList};
+pub use edition::Edition;
 pub use layout::{change_list_len, control_len, pool_len, PAGE};
 pub use memory::{Memory, Registers};
 pub use place::{Kind, PagePlace, Place, Region};

@@ -1,7 +1,7 @@
 //! The three lent buffers and the calls on them.
 
 use crate::refusal::{check, check_access};
-use crate::{sys, Address, ChangeList, Kind, PagePlace, Place, Refusal, Region};
+use crate::{sys, Address, ChangeList, Edition, Kind, PagePlace, Place, Refusal, Region};
 use std::fmt;
 
 /// The 32 registers of an invocation, 8 bytes each.
@@ -28,7 +28,7 @@ pub type Registers = [u8; 256];
 /// let (mut control, mut pool) = (vec![0; control_len(2)], vec![0; pool_len(2)]);
 ///
 /// let mut memory = Memory::new(&snapshot, &mut control, &mut pool);
-/// memory.begin(program)?;
+/// memory.begin(program, Edition::Newer)?;
 /// assert_eq!(memory.fetch(Address::program(0)?, 4)?, 0x0403_0201);
 /// // The program has 4 bytes, so 4 of these 8 are there.
 /// assert_eq!(memory.fetch(Address::program(0)?, 8), Err(Refusal::Absent { distance: 4 }));
@@ -65,7 +65,7 @@ impl<'a> Memory<'a> {
         Memory { snapshot, control, pool }
     }
 
-    /// Begins a program with one stack page: [`Memory::begin_with_pages`] with 1.
+    /// Begins a program of an edition with one stack page: [`Memory::begin_with_pages`] with 1.
     ///
     /// ```
     /// # use hekthumar::*;
@@ -74,19 +74,19 @@ impl<'a> Memory<'a> {
     /// # let snapshot = builder.build().unwrap();
     /// # let (mut control, mut pool) = (vec![0; control_len(2)], vec![0; pool_len(2)]);
     /// # let mut memory = Memory::new(&snapshot, &mut control, &mut pool);
-    /// memory.begin(program)?;
+    /// memory.begin(program, Edition::Newer)?;
     /// let top = Address::stack(0xFF_FFF8)?;
     /// memory.store_u64(top, 42)?;
     /// assert_eq!(memory.load_u64(top), Ok(42));
     /// assert_eq!(memory.translate(Kind::Load, top, 8)?, Place::Pool { at: 4_088 });
     /// # Ok::<(), Refusal>(())
     /// ```
-    pub fn begin(&mut self, program: u16) -> Result<(), Refusal> {
-        check(lend!(as_mut_ptr, self, hekthumar_begin(program)))
+    pub fn begin(&mut self, program: u16, edition: Edition) -> Result<(), Refusal> {
+        check(lend!(as_mut_ptr, self, hekthumar_begin(program, edition as u32)))
     }
 
     /// Begins a program as the only invocation, with 0 or 1 stack pages and without copies or heap. The page is frame 0 of the pool,
-    /// zeroed; every other byte of the pool stays.
+    /// zeroed; every other byte of the pool stays. The edition holds for this program and all that it calls, until the next begin.
     ///
     /// Refused with [`Refusal::BadRequest`] for more than 1 page, [`Refusal::NoSegment`] if there is no such account, and
     /// [`Refusal::OutOfFrames`] for 1 page and a pool without a frame.
@@ -99,15 +99,15 @@ impl<'a> Memory<'a> {
     /// // A pool without a frame: enough for a program that only reads.
     /// let (mut control, mut pool) = (vec![0; control_len(0)], vec![0; pool_len(0)]);
     /// let mut memory = Memory::new(&snapshot, &mut control, &mut pool);
-    /// assert_eq!(memory.begin_with_pages(program, 2), Err(Refusal::BadRequest));
-    /// assert_eq!(memory.begin_with_pages(program, 1), Err(Refusal::OutOfFrames));
-    /// memory.begin_with_pages(program, 0)?;
+    /// assert_eq!(memory.begin_with_pages(program, Edition::Newer, 2), Err(Refusal::BadRequest));
+    /// assert_eq!(memory.begin_with_pages(program, Edition::Newer, 1), Err(Refusal::OutOfFrames));
+    /// memory.begin_with_pages(program, Edition::Newer, 0)?;
     /// assert_eq!(memory.load_u64(Address::stack(0xFF_FFF8)?), Err(Refusal::Absent { distance: 0 }));
     /// assert_eq!(memory.load_u32(Address::program(0)?), Ok(0x0403_0201));
     /// # Ok::<(), Refusal>(())
     /// ```
-    pub fn begin_with_pages(&mut self, program: u16, pages: usize) -> Result<(), Refusal> {
-        check(lend!(as_mut_ptr, self, hekthumar_begin_pages(program, pages)))
+    pub fn begin_with_pages(&mut self, program: u16, edition: Edition, pages: usize) -> Result<(), Refusal> {
+        check(lend!(as_mut_ptr, self, hekthumar_begin_pages(program, edition as u32, pages)))
     }
 
     /// Where an access would go. Refused exactly as the access would be; changes nothing.
@@ -120,7 +120,7 @@ impl<'a> Memory<'a> {
     /// # let snapshot = builder.build().unwrap();
     /// # let (mut control, mut pool) = (vec![0; control_len(2)], vec![0; pool_len(2)]);
     /// # let mut memory = Memory::new(&snapshot, &mut control, &mut pool);
-    /// # memory.begin(program)?;
+    /// # memory.begin(program, Edition::Newer)?;
     /// let address = Address::data(slots, 0x1004)?;
     /// let place = memory.translate(Kind::Store, address, 1)?;
     /// // Frame 0 is the stack's page.
@@ -140,7 +140,8 @@ impl<'a> Memory<'a> {
         check_access(sys::Outcome { distance, number }).map(|()| value)
     }
 
-    /// Fetches 1, 2, 4 or 8 bytes of the current program as a little-endian number.
+    /// Fetches 1, 2, 4 or 8 bytes of the current program as a little-endian number. Where a program is, its [`Edition`] says; elsewhere the
+    /// fetch is refused with [`Refusal::NotPermitted`].
     pub fn fetch(&self, address: Address, size: usize) -> Result<u64, Refusal> {
         let sys::Value { value, distance, number } = lend!(as_ptr, self, hekthumar_fetch(address.0, size));
         check_access(sys::Outcome { distance, number }).map(|()| value)
@@ -183,7 +184,7 @@ impl<'a> Memory<'a> {
     /// # let snapshot = builder.build().unwrap();
     /// # let (mut control, mut pool) = (vec![0; control_len(4)], vec![0; pool_len(4)]);
     /// # let mut memory = Memory::new(&snapshot, &mut control, &mut pool);
-    /// memory.begin(program)?;
+    /// memory.begin(program, Edition::Newer)?;
     /// memory.call(helper, &[0; 256])?;
     /// memory.resize(Region::Stack, 2)?;
     /// memory.resize(Region::Heap, 1)?;
@@ -232,7 +233,7 @@ impl<'a> Memory<'a> {
     /// # let snapshot = builder.build().unwrap();
     /// # let (mut control, mut pool) = (vec![0; control_len(2)], vec![0; pool_len(2)]);
     /// # let mut memory = Memory::new(&snapshot, &mut control, &mut pool);
-    /// # memory.begin(program)?;
+    /// # memory.begin(program, Edition::Newer)?;
     /// assert_eq!(memory.page_view(slots, 1)?, [7; 1_904]);
     /// assert_eq!(memory.page_view(slots, 2), Err(Refusal::Absent { distance: 0 }));
     /// # Ok::<(), Refusal>(())

@@ -17,7 +17,7 @@ use crate::{sys, Address};
 /// # let snapshot = builder.build().unwrap();
 /// # let (mut control, mut pool) = (vec![0; control_len(1)], vec![0; pool_len(1)]);
 /// # let mut memory = Memory::new(&snapshot, &mut control, &mut pool);
-/// # memory.begin(program)?;
+/// # memory.begin(program, Edition::Newer)?;
 /// let at = Address::stack(0xFF_F000)?;
 /// for pointer in [Address::heap(8)?, Address(0), Address(u64::MAX)] {
 ///     let buffer = Buffer { pointer, length: 5 };
@@ -79,7 +79,7 @@ pub struct CallRecord {
 /// # let snapshot = builder.build().unwrap();
 /// # let (mut control, mut pool) = (vec![0; control_len(1)], vec![0; pool_len(1)]);
 /// # let mut memory = Memory::new(&snapshot, &mut control, &mut pool);
-/// # memory.begin(program)?;
+/// # memory.begin(program, Edition::Newer)?;
 /// let at = Address::stack(0xFF_F000)?;
 /// let value = Returned::Err(Buffer { pointer: Address::stack(0xFF_F100)?, length: 9 });
 /// memory.write_returned(at, value)?;

@@ -16,7 +16,8 @@ use std::fmt;
 pub enum Refusal {
     /// A buffer's length, a header, an account entry or the control block breaks the layout.
     Invalid,
-    /// The size is not 1, 2, 4 or 8, the span not 1 to 4,096 bytes, or begin's number of stack pages not 0 or 1.
+    /// The size is not 1, 2, 4 or 8, the span not 1 to 4,096 bytes, begin's number of stack pages not 0 or 1, or in the C interface its
+    /// edition not 1 or 2.
     BadRequest,
     /// The address has one of its upper 16 bits set, or its offset was to be 2^24 or more.
     OutOfRange,
@@ -95,7 +96,7 @@ impl Refusal {
     pub const fn sentence(self) -> &'static str {
         match self {
             Refusal::Invalid => "a buffer, header, account entry or the control block is not valid",
-            Refusal::BadRequest => "the kind of access is unknown, or its length or the number of pages is not allowed",
+            Refusal::BadRequest => "the kind of access or the edition is unknown, or the length or the number of pages is not allowed",
             Refusal::OutOfRange => "the address has more than 48 bits or the offset more than 24",
             Refusal::NoSegment => "there is no such segment, account or program",
             Refusal::Misaligned => "the offset is not a multiple of the access size",

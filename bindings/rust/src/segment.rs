@@ -18,13 +18,15 @@ pub enum Segment {
     Transaction,
     /// The 17 records of 264 bytes that describe the invocations; read only.
     ShadowStack,
-    /// The original data of the current program's account; read only, and the only segment to fetch from.
+    /// The original data of the current program's account; read only, and the only segment to fetch from. The
+    /// [older](crate::Edition::Older) edition has no such segment.
     Program,
     /// The block contexts, 120 bytes at each multiple of 4,096; read only.
     BlockContexts,
     /// The 64 bytes of metadata of this account; read only.
     Metadata(u16),
-    /// The data of this account; to be stored to if it is writable and the current program owns it.
+    /// The data of this account; to be stored to if it is writable and the current program owns it. In the older edition, that of the
+    /// current program is what to fetch from.
     Data(u16),
     /// The stack, which grows down from offset 2^24.
     Stack,

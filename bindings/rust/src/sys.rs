@@ -118,6 +118,7 @@ extern "C" {
         pool: *mut u8,
         pool_len: usize,
         program: u16,
+        edition: u32,
     ) -> u8;
     pub fn hekthumar_begin_pages(
         snapshot: *const u8,
@@ -127,6 +128,7 @@ extern "C" {
         pool: *mut u8,
         pool_len: usize,
         program: u16,
+        edition: u32,
         pages: usize,
     ) -> u8;
     pub fn hekthumar_translate(

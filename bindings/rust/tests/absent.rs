@@ -29,7 +29,7 @@ impl Host {
         let mut host = Host::filled(builder, frames, 0);
         let mut memory = host.memory();
         let pages = frames.min(1);
-        memory.begin_with_pages(PROGRAM, pages).unwrap();
+        memory.begin_with_pages(PROGRAM, Edition::Newer, pages).unwrap();
         memory.resize(Region::Heap, pages).unwrap();
         host
     }

@@ -44,14 +44,14 @@ impl Host {
 
     fn begin(&mut self) -> Memory<'_> {
         let mut memory = self.memory();
-        memory.begin(PROGRAM).unwrap();
+        memory.begin(PROGRAM, Edition::Newer).unwrap();
         memory
     }
 
     /// Begins without a stack page.
     fn begin_empty(&mut self) -> Memory<'_> {
         let mut memory = self.memory();
-        memory.begin_with_pages(PROGRAM, 0).unwrap();
+        memory.begin_with_pages(PROGRAM, Edition::Newer, 0).unwrap();
         memory
     }
 }
@@ -117,7 +117,7 @@ fn refusals_of_accesses() {
     let mut host = Host::new(0);
     let mut fresh = host.memory();
     assert_eq!(fresh.load(slot(0), 1), Err(Refusal::Invalid));
-    assert_eq!(fresh.begin(ABSENT), Err(Refusal::NoSegment));
+    assert_eq!(fresh.begin(ABSENT, Edition::Newer), Err(Refusal::NoSegment));
 
     let mut memory = host.begin_empty();
     assert_eq!(memory.load(slot(0), 3), Err(Refusal::BadRequest));
@@ -210,7 +210,7 @@ fn translation_names_the_place_of_every_segment() {
     assert_eq!(place(Kind::Load, Address::block_context(0, 2)), Place::Snapshot { at: contexts + 2 });
     assert_eq!(place(Kind::LoadSpan, Address::transaction(3)), Place::Snapshot { at: contexts + 120 + 3 });
     assert_eq!(place(Kind::Fetch, Address::program(1)), Place::Snapshot { at: contexts + 120 + 11 + 1 });
-    assert_eq!(place(Kind::Load, Address::shadow(264)), Place::Control { at: 16 + 264 });
+    assert_eq!(place(Kind::Load, Address::shadow(264)), Place::Control { at: 24 + 264 });
     assert_eq!(place(Kind::Store, Address::stack(0xFFF001)), Place::Pool { at: 1 });
     assert_eq!(place(Kind::StoreSpan, Ok(slot(5))), Place::Take { at: 4_096 + 5, frame: 1, account: SLOTS, page: 0 });
 }
@@ -313,7 +313,7 @@ fn the_fields_of_the_formats_are_those_of_the_calls() {
     let entry = AccountEntry::read(&snapshot, SLOTS).unwrap();
     assert_eq!((entry.exists(), entry.writable(), entry.owner, entry.length, entry.zero), (true, true, PROGRAM, 6_000, 0));
     assert_eq!(AccountEntry::read(&snapshot, 6), None);
-    let header = ControlHeader { frames: 4, invocations: 2, shadow_at: 16, table_at: 4_504 };
+    let header = ControlHeader { frames: 4, invocations: 2, shadow_at: 24, table_at: 4_512, edition: 2, zero: 0 };
     assert_eq!(ControlHeader::read(&control), Some(header));
     let current = Invocation::read(&control, 2).unwrap();
     assert_eq!((current.program, current.stack, current.heap, current.registers[1]), (CALLEE, 1, 1, 0x77));
@@ -335,7 +335,7 @@ fn the_builder_names_the_limit_exceeded() {
     let snapshot = builder.build().unwrap();
     let (mut control, mut pool) = (vec![0; control_len(1_024)], vec![0; pool_len(1_024)]);
     // At all limits at once the library still accepts.
-    Memory::new(&snapshot, &mut control, &mut pool).begin(0).unwrap();
+    Memory::new(&snapshot, &mut control, &mut pool).begin(0, Edition::Newer).unwrap();
 
     let mut long = builder.clone();
     long.transaction(vec![0; 65_537]);

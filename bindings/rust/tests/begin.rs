@@ -28,17 +28,17 @@ impl Host {
     }
 
     fn begin(&mut self, program: u16) -> Result<(), Refusal> {
-        self.unless_refused(|memory| memory.begin(program))
+        self.unless_refused(|memory| memory.begin(program, Edition::Newer))
     }
 
     fn begin_with_pages(&mut self, program: u16, pages: usize) -> Result<(), Refusal> {
-        self.unless_refused(|memory| memory.begin_with_pages(program, pages))
+        self.unless_refused(|memory| memory.begin_with_pages(program, Edition::Newer, pages))
     }
 }
 
 /// The control block of a program just begun: header, record 1, and the entry of frame 0 where it is the stack's.
 fn begun(frames: usize, program: u16, pages: u16) -> Vec<u8> {
-    let mut control: Vec<u8> = [frames as u32, 1, 16, 4_504].into_iter().flat_map(u32::to_le_bytes).collect();
+    let mut control: Vec<u8> = [frames as u32, 1, 24, 4_512, 2, 0].into_iter().flat_map(u32::to_le_bytes).collect();
     control.resize(control_len(frames), 0);
     let record = CONTROL_HEADER + SHADOW_RECORD;
     control[record..][..2].copy_from_slice(&program.to_le_bytes());

@@ -23,7 +23,7 @@ impl Host {
         builder.account(Account::program([0x13, 0, 0, 0]));
         builder.account(Account::data(PROGRAM, [7; 6_000]).writable());
         let mut host = Host::filled(builder, frames, 0xCC);
-        host.memory().begin_with_pages(PROGRAM, frames.min(1)).unwrap();
+        host.memory().begin_with_pages(PROGRAM, Edition::Newer, frames.min(1)).unwrap();
         host
     }
 

@@ -22,7 +22,7 @@ impl Host {
     /// Begins with one stack page, which is frame 0.
     fn begin(&mut self) -> Memory<'_> {
         let mut memory = self.memory();
-        memory.begin(PROGRAM).unwrap();
+        memory.begin(PROGRAM, Edition::Newer).unwrap();
         memory
     }
 }

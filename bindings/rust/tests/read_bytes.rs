@@ -20,7 +20,7 @@ impl Host {
         builder.account(Account::program([0x13, 0, 0, 0]));
         builder.account(Account::data(0, data()).writable());
         let mut host = Host::filled(builder, 4, 0);
-        host.memory().begin(0).unwrap();
+        host.memory().begin(0, Edition::Newer).unwrap();
         host
     }
 

@@ -23,7 +23,7 @@ impl Host {
         builder.account(Account::data(PROGRAM, [8; 60]));
         let mut host = Host::filled(builder, frames, 0xCC);
         let mut memory = host.memory();
-        memory.begin(PROGRAM).unwrap();
+        memory.begin(PROGRAM, Edition::Newer).unwrap();
         memory.resize(Region::Stack, 2).unwrap();
         memory.resize(Region::Heap, 2).unwrap();
         host

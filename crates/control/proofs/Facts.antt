@@ -6,12 +6,12 @@ use mathlib.Core.List.{List}
 use lib.ListN.{length}
 use borrow.Author.Tests.{leb-true, eqb-true, ltb-true, le-leb, eq-eqb, lt-ltb}
 use Rattle.layout.specs.Page.{pageLimit, poolLength}
-use Rattle.layout.specs.Control.{shadowAt, tableAt, frameLimit, liveLimit, controlLength}
+use Rattle.layout.specs.Control.{reservedAt, shadowAt, tableAt, frameLimit, liveLimit, controlLength}
 use Rattle.words.specs.Words.{wordAt}
 use Rattle.choice.proofs.Tests.{fails, both-true}
 use Rattle.snapshot.specs.Header.{headerOf, accounts, snapshotValid}
 use Rattle.snapshot.specs.declared.header.Header.{Header}
-use Rattle.control.specs.Control.{frames, invocations, current, controlValid, currentValid, controlReady, buffersValid}
+use Rattle.control.specs.Control.{frames, invocations, edition, editionKnown, current, controlValid, currentValid, controlReady, buffersValid}
 
 -- ---- the control block
 
@@ -23,6 +23,8 @@ pub record ControlFacts (c : List ℕ) : Type 0 where
   pub few-live : invocations c ≤ liveLimit
   pub shadow-at : wordAt 4 c 8 ≡ shadowAt
   pub table-at : wordAt 4 c 12 ≡ tableAt
+  pub edition : editionKnown (edition c) ≡ true
+  pub reserved : wordAt 4 c reservedAt ≡ 0
   pub size : length c ≡ controlLength (frames c)
 
 module _ (c : List ℕ) where
@@ -35,6 +37,8 @@ module _ (c : List ℕ) where
       let t₄ = both-true _ _ (t₃ .1) in
       let t₅ = both-true _ _ (t₄ .1) in
       let t₆ = both-true _ _ (t₅ .1) in
+      let t₇ = both-true _ _ (t₆ .1) in
+      let t₈ = both-true _ _ (t₇ .1) in
       record {
         header = leb-true _ _ (t₁ .0);
         few-frames = leb-true _ _ (t₂ .0);
@@ -42,13 +46,15 @@ module _ (c : List ℕ) where
         few-live = leb-true _ _ (t₄ .0);
         shadow-at = eqb-true _ _ (t₅ .0);
         table-at = eqb-true _ _ (t₆ .0);
-        size = eqb-true _ _ (t₆ .1);
+        edition = t₇ .0;
+        reserved = eqb-true _ _ (t₈ .0);
+        size = eqb-true _ _ (t₈ .1);
       }
 
   pub control-valid : ControlFacts c → controlValid c ≡ true
   unfolding controlValid
   control-valid f =
-      rw (le-leb _ _ (f .header), le-leb _ _ (f .few-frames), le-leb _ _ (f .some-live), le-leb _ _ (f .few-live), eq-eqb _ _ (f .shadow-at), eq-eqb _ _ (f .table-at), eq-eqb _ _ (f .size))
+      rw (le-leb _ _ (f .header), le-leb _ _ (f .few-frames), le-leb _ _ (f .some-live), le-leb _ _ (f .few-live), eq-eqb _ _ (f .shadow-at), eq-eqb _ _ (f .table-at), f .edition, eq-eqb _ _ (f .reserved), eq-eqb _ _ (f .size))
 
   -- where a fact fails, the test does
   pub control-invalid : (ControlFacts c → ⊥) → false ≡ controlValid c

@@ -7,7 +7,7 @@ use mathlib.Core.Logic.{_⊎_, inl, inr, ⊎-elim}
 use mathlib.Core.List.{List}
 use native.Mathlib.Omega.{arith}
 use lib.ListN.{length, getD}
-use Rattle.layout.specs.Control.{shadowAt, shadowSize, tableAt}
+use Rattle.layout.specs.Control.{editionAt, reservedAt, shadowAt, shadowSize, tableAt}
 use Rattle.words.specs.Words.{wordAt, bytesAt, splice}
 use Rattle.words.proofs.Splice.{length-splice, splice-before, splice-behind}
 use Rattle.words.proofs.Word.{word-ext}
@@ -63,7 +63,7 @@ module _ {lo hi : ℕ} {c c′ : List ℕ} (o : Only lo hi c c′) where
   pub valid-kept : shadowAt ≤ lo → controlValid c′ ≡ controlValid c
   unfolding controlValid
   valid-kept h =
-      rw (o .size, word-kept 4 0 (inl (omega arith)), word-kept 4 4 (inl (omega arith)), word-kept 4 8 (inl (omega arith)), word-kept 4 12 (inl (omega arith)))
+      rw (o .size, word-kept 4 0 (inl (omega arith)), word-kept 4 4 (inl (omega arith)), word-kept 4 8 (inl (omega arith)), word-kept 4 12 (inl (omega arith)), word-kept 4 editionAt (inl (omega arith)), word-kept 4 reservedAt (inl (omega arith)))
 
   -- a write to the frame table leaves the three buffers valid
   pub buffers-kept : (s p p′ : List ℕ) → tableAt ≤ lo → length p′ ≡ length p → buffersValid s c p ≡ true → buffersValid s c′ p′ ≡ true

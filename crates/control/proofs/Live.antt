@@ -7,10 +7,10 @@ use mathlib.Core.Logic.{inl, inr}
 use mathlib.Core.List.{List}
 use native.Mathlib.Omega.{arith}
 use lib.ListN.{length}
-use Rattle.layout.specs.Control.{tableAt, liveLimit}
+use Rattle.layout.specs.Control.{editionAt, reservedAt, tableAt, liveLimit}
 use Rattle.words.specs.Words.{wordAt, wordBytes, bytesAt}
 use Rattle.words.proofs.Word.{length-wordBytes, word-same}
-use Rattle.control.specs.Control.{frames, invocations, setInvocations, controlValid, invocationOf}
+use Rattle.control.specs.Control.{frames, invocations, edition, setInvocations, controlValid, invocationOf}
 use Rattle.control.proofs.Facts.{ControlFacts, control-facts, control-valid}
 use Rattle.control.proofs.Kept.{Only, only-splice, word-kept, run-kept, invocation-kept}
 
@@ -24,9 +24,13 @@ module _ (c : List ℕ) (d : ℕ) where
   pub live-frames : frames (setInvocations c d) ≡ frames c
   live-frames = word-kept live-only 4 0 (inl (omega arith))
 
-  -- every word behind stays: the two offsets, and those of the frame table
+  -- every word behind stays: the two offsets, the edition, and those of the frame table
   pub live-word : (w j : ℕ) → 8 ≤ j → wordAt w (setInvocations c d) j ≡ wordAt w c j
   live-word w j h = word-kept live-only w j (inr h)
+
+  -- so the edition does
+  pub live-edition : edition (setInvocations c d) ≡ edition c
+  live-edition = live-word 4 editionAt (omega arith)
 
   -- every run behind stays
   pub live-run : (n j : ℕ) → 8 ≤ j → bytesAt n (setInvocations c d) j ≡ bytesAt n c j
@@ -56,5 +60,7 @@ module _ (c : List ℕ) (d : ℕ) where
         few-live = omega arith;
         shadow-at = omega (arith, live-word 4 8 (omega arith));
         table-at = omega (arith, live-word 4 12 (omega arith));
+        edition = rw live-edition (f .edition);
+        reserved = omega (arith, live-word 4 reservedAt (omega arith));
         size = omega arith;
       })

@@ -8,12 +8,12 @@ use native.Mathlib.Nat.{add-zero}
 use native.Mathlib.Decide.{decLt}
 use native.Mathlib.Omega.{arith}
 use lib.ListN.{length}
-use Rattle.layout.specs.Control.{shadowAt, shadowSize, tableAt, registersSize, liveLimit}
+use Rattle.layout.specs.Control.{editionAt, shadowAt, shadowSize, tableAt, registersSize, liveLimit}
 use Rattle.words.specs.Words.{wordAt, wordBytes, splice, zeros}
 use Rattle.words.proofs.Splice.{splice-append}
 use Rattle.words.proofs.Word.{word-before, word-in, word-zeros, word-same, length-wordBytes}
 use Rattle.words.proofs.Run.{length-zeros}
-use Rattle.control.specs.Control.{recordAt, controlValid, invocationOf, invocationBytes, putInvocation, clearInvocation, regionAt, setPages, pagesOf}
+use Rattle.control.specs.Control.{edition, recordAt, controlValid, invocationOf, invocationBytes, putInvocation, clearInvocation, regionAt, setPages, pagesOf}
 use Rattle.control.specs.declared.shadow.Region.{Region}
 use Rattle.control.specs.declared.shadow.Region.the-variants.{Stack, Heap}
 use Rattle.control.specs.declared.shadow.Invocation.{Invocation}
@@ -37,6 +37,10 @@ module _ (k : ℕ) {c c′ : List ℕ} (o : OnlyRecord k c c′) where
   -- every word of the header stays
   pub header-kept : (w j : ℕ) → j + w ≤ shadowAt → wordAt w c′ j ≡ wordAt w c j
   header-kept w j h = word-kept o w j (inl (omega arith))
+
+  -- so does the edition
+  pub record-edition : edition c′ ≡ edition c
+  record-edition = header-kept 4 editionAt (omega arith)
 
   -- and the control block is as valid as it was
   pub record-valid : controlValid c′ ≡ controlValid c

@@ -1,13 +1,13 @@
--- Document 01, "Three lent buffers": the ledger, here the control block c, but for its frame table. Assumes nothing.
+-- Document 01, "Three lent buffers", with document 02, "Six": the ledger, here the control block c, but for its frame table. Assumes nothing.
 use Prim.Native.Nat.{ℕ, _+_, _-_, _*_}
 use mathlib.Core.Bool.{Bool}
 use mathlib.Core.List.{List, _++_}
 use lib.ListN.{length}
 use lib.Dec.{ltb, leb, eqb}
 use Rattle.layout.specs.Page.{pageLimit, poolLength}
-use Rattle.layout.specs.Control.{shadowAt, shadowSize, tableAt, stackAt, heapAt, registersAt, registersSize, liveLimit, frameLimit, controlLength}
+use Rattle.layout.specs.Control.{editionAt, reservedAt, older, newer, shadowAt, shadowSize, tableAt, stackAt, heapAt, registersAt, registersSize, liveLimit, frameLimit, controlLength}
 use Rattle.words.specs.Words.{wordAt, wordBytes, bytesAt, splice, zeros}
-use Rattle.choice.specs.Choice.{both}
+use Rattle.choice.specs.Choice.{both, either}
 use Rattle.snapshot.specs.Header.{accounts, snapshotValid}
 use Rattle.control.specs.declared.shadow.Region.{Region}
 use Rattle.control.specs.declared.shadow.Region.the-variants.{Stack, Heap}
@@ -31,14 +31,26 @@ depth c = invocations c - 1
 unfoldable pub setInvocations : List ℕ → ℕ → List ℕ
 setInvocations c d = splice c 4 (wordBytes 4 d)
 
--- the header's ranges and offsets, and the length
+-- "The ledger header gains at its end a u32 edition"
+abbrev pub edition : List ℕ → ℕ
+edition c = wordAt 4 c editionAt
+
+-- "(1 older, 2 newer)"
+unfoldable pub editionKnown : ℕ → Bool
+editionKnown e = either (eqb e older) (eqb e newer)
+
+-- the header's ranges and offsets, and the length; the edition "and a zero u32; any other word there is unfit"
 unfoldable pub controlValid : List ℕ → Bool
 controlValid c =
     both (leb tableAt (length c))
     (both (leb (frames c) frameLimit)
     (both (leb 1 (invocations c))
     (both (leb (invocations c) liveLimit)
-    (both (eqb (wordAt 4 c 8) shadowAt) (both (eqb (wordAt 4 c 12) tableAt) (eqb (length c) (controlLength (frames c))))))))
+    (both (eqb (wordAt 4 c 8) shadowAt)
+    (both (eqb (wordAt 4 c 12) tableAt)
+    (both (editionKnown (edition c))
+    (both (eqb (wordAt 4 c reservedAt) 0)
+    (eqb (length c) (controlLength (frames c))))))))))
 
 -- ---- shadow records, the paper's shadow frames: "u16 program account, u16 stack pages, u16 heap pages, 2 zero bytes, 32
 -- registers of 8 bytes"

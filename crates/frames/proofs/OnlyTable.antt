@@ -6,10 +6,10 @@ use mathlib.Core.Logic.{inl}
 use mathlib.Core.List.{List}
 use native.Mathlib.Omega.{arith}
 use lib.ListN.{length, List·getD-eq-default}
-use Rattle.layout.specs.Control.{tableAt, liveLimit}
+use Rattle.layout.specs.Control.{editionAt, tableAt, liveLimit}
 use Rattle.words.proofs.Splice.{splice-before}
 use Rattle.choice.proofs.Tests.{by-test}
-use Rattle.control.specs.Control.{frames, invocations, invocationOf, current, controlValid, currentValid, controlReady, buffersValid}
+use Rattle.control.specs.Control.{frames, invocations, edition, invocationOf, current, controlValid, currentValid, controlReady, buffersValid}
 use Rattle.control.proofs.Facts.{control-facts}
 use Rattle.control.proofs.Kept.{Only, word-kept, invocation-kept, valid-kept}
 use Rattle.frames.specs.Table.{frameEntryAt, frameEntryBytes, putFrameEntry}
@@ -53,6 +53,10 @@ module _ {c c′ : List ℕ} (o : OnlyTable c c′) where
   -- the live invocations stay
   pub table-invocations : invocations c′ ≡ invocations c
   table-invocations = word-kept o 4 4 (inl (omega arith))
+
+  -- the edition stays
+  pub table-edition : edition c′ ≡ edition c
+  table-edition = word-kept o 4 editionAt (inl (omega arith))
 
   -- each shadow record's program and sizes stay
   pub table-invocation : (k : ℕ) → k ≤ liveLimit → invocationOf c′ k ≡ invocationOf c k

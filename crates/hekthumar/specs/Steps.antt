@@ -23,7 +23,8 @@ use lib.ListN.{length}
 
 -- "begin, translation, load, store, fetch, span load, span store, call, return, resize, change list, page view", each with its
 -- arguments but the three buffers. A lent buffer is given by the bytes that it brings: it "may be lent again and bring any bytes".
--- "where demand 3 says begin, it means either": what a begin is given has the number of its stack pages.
+-- "where demand 3 says begin, it means either": what a begin is given has the number of its stack pages. "Both begins take the edition", which it
+-- has too.
 -- A record's read and its write, of every layout: document 02, "Five", "each is that one span load or store".
 pub data Call : Type 0 where
   begin : Start → Call
@@ -42,8 +43,8 @@ pub data Call : Type 0 where
   page-view : Account → Page → Call
 
 -- the begin "that takes the number of pages"; the begin that takes none is this one with 1
-abbrev pub beginWith : (program pages : ℕ) → Call
-beginWith program pages = begin (record { program = record { 0 = program }; pages = pages })
+abbrev pub beginWith : (program edition pages : ℕ) → Call
+beginWith program edition pages = begin (record { program = record { 0 = program }; edition = edition; pages = pages })
 
 -- what a call gives: its number, an access's distance, its value, and the bytes of its lent buffer afterwards, of its view or of its record
 pub record Answer : Type 0 where

@@ -8,40 +8,44 @@ use snapshot::accounts::Account;
 ghost use mathlib.Core.Path.{_≡_};
 ghost use Rattle.hekthumar.specs.Steps.{beginWith, call, return, resize, lent};
 
-// Begins a program with one stack page: the whole control block is written, and frame 0 of the pool.
+// Begins a program of an edition, 1 or 2, with one stack page: the whole control block is written, and frame 0 of the pool.
 #[no_mangle]
 pub extern "C" fn hekthumar_begin(
     snapshot: &[u8],
     control: &mut [u8],
     pool: &mut [u8],
     program: u16,
+    edition: u32,
 ) -> u8
-    ensures { λ r. ⌜ r ≡ lent (now (snapshot .entry)) (now (control .entry)) (now (pool .entry)) (beginWith program 1) .answer .number ⌝ }
-    ensures { λ _. ⌜ now (control .exit) ≡ lent (now (snapshot .entry)) (now (control .entry)) (now (pool .entry)) (beginWith program 1) .after .control ⌝ }
-    ensures { λ _. ⌜ now (pool .exit) ≡ lent (now (snapshot .entry)) (now (control .entry)) (now (pool .entry)) (beginWith program 1) .after .pool ⌝ }
+    ensures { λ r. ⌜ r ≡ lent (now (snapshot .entry)) (now (control .entry)) (now (pool .entry)) (beginWith program edition 1) .answer .number ⌝ }
+    ensures { λ _. ⌜ now (control .exit) ≡ lent (now (snapshot .entry)) (now (control .entry)) (now (pool .entry)) (beginWith program edition 1) .after .control ⌝ }
+    ensures { λ _. ⌜ now (pool .exit) ≡ lent (now (snapshot .entry)) (now (control .entry)) (now (pool .entry)) (beginWith program edition 1) .after .pool ⌝ }
 {
     let start = Start {
         program: Account(program),
+        edition,
         pages: 1,
     };
     begin(snapshot, control, pool, start)
 }
 
-// Begins a program with so many stack pages, 0 or 1.
+// Begins a program of an edition, 1 or 2, with so many stack pages, 0 or 1.
 #[no_mangle]
 pub extern "C" fn hekthumar_begin_pages(
     snapshot: &[u8],
     control: &mut [u8],
     pool: &mut [u8],
     program: u16,
+    edition: u32,
     pages: usize,
 ) -> u8
-    ensures { λ r. ⌜ r ≡ lent (now (snapshot .entry)) (now (control .entry)) (now (pool .entry)) (beginWith program pages) .answer .number ⌝ }
-    ensures { λ _. ⌜ now (control .exit) ≡ lent (now (snapshot .entry)) (now (control .entry)) (now (pool .entry)) (beginWith program pages) .after .control ⌝ }
-    ensures { λ _. ⌜ now (pool .exit) ≡ lent (now (snapshot .entry)) (now (control .entry)) (now (pool .entry)) (beginWith program pages) .after .pool ⌝ }
+    ensures { λ r. ⌜ r ≡ lent (now (snapshot .entry)) (now (control .entry)) (now (pool .entry)) (beginWith program edition pages) .answer .number ⌝ }
+    ensures { λ _. ⌜ now (control .exit) ≡ lent (now (snapshot .entry)) (now (control .entry)) (now (pool .entry)) (beginWith program edition pages) .after .control ⌝ }
+    ensures { λ _. ⌜ now (pool .exit) ≡ lent (now (snapshot .entry)) (now (control .entry)) (now (pool .entry)) (beginWith program edition pages) .after .pool ⌝ }
 {
     let start = Start {
         program: Account(program),
+        edition,
         pages,
     };
     begin(snapshot, control, pool, start)

@@ -19,7 +19,7 @@ use Rattle.frames.proofs.Entries.{zero-range}
 use Rattle.frames.proofs.Claims.{none-frame}
 use Rattle.invoke.specs.declared.begin.Start.{Start}
 use Rattle.invoke.specs.Invoke.{beginCheck, beginNumber, beginControl, beginPool, fresh, begun}
-use Rattle.invoke.proofs.Accepted.{RoomFacts, room-facts, BeginFacts, begin-facts, program-known, program-fits}
+use Rattle.invoke.proofs.Accepted.{RoomFacts, room-facts, BeginFacts, begin-facts, program-known, StartFits, begin-fits}
 use Rattle.invoke.proofs.Fresh.{fresh-frames, fresh-invocations, fresh-valid, fresh-invocation, fresh-current-valid, fresh-entry, fresh-claims}
 use Rattle.changes.specs.Keys.{keyClaim, isCopied}
 use Rattle.hekthumar.specs.Steps.{begin, stepOf}
@@ -43,9 +43,9 @@ module _ (s : List ℕ) (size : ℕ) (p : List ℕ) (x : Start) (e : beginCheck 
   known : x .program .0 < accounts s
   known = program-known s (x .program) (facts .program)
 
-  -- its number fits two bytes
-  fits : x .program .0 < 65536
-  fits = program-fits s (x .program) (facts .program) (facts .snapshot)
+  -- what is asked fits a fresh control block
+  fits : StartFits x
+  fits = begin-fits facts
 
   -- the one record is the program's, with no pages
   fresh-record : (k : ℕ) → 1 ≤ k → k ≤ invocations (fresh size x) → LiveRecord s (fresh size x) k

@@ -15,7 +15,7 @@ use Rattle.refusal.specs.declared.Refusal.the-variants.{NoSegment, NotPermitted
 use Rattle.refusal.proofs.Checks.{need-then}
 use Rattle.address.specs.Address.{typeOf, indexOf, offsetOf}
 use Rattle.snapshot.specs.Header.{accounts}
-use Rattle.control.specs.Control.{depth, current, buffersValid}
+use Rattle.control.specs.Control.{depth, edition, current, buffersValid}
 use Rattle.control.specs.declared.shadow.Region.the-variants as region
 use Rattle.pages.specs.Pages.{pageOf}
 use Rattle.frames.specs.Table.{frameEntryOf, frameOf}
@@ -25,14 +25,16 @@ use Rattle.frames.specs.declared.claim.Found.the-variants.{At, Nothing}
 use Rattle.frames.specs.declared.table.FrameEntry.{FrameEntry}
 use Rattle.frames.proofs.Claims.{claims-page, frame-found}
 use Rattle.segments.specs.Kinds.{isStore}
-use Rattle.segments.specs.Rules.{row, rules, rowOf, permitted}
+use Rattle.segments.specs.Rules.{row, rules, rowOf, segmentOf, permitted}
+use Rattle.segments.specs.declared.rules.Editions.the-variants.{Both}
+use Rattle.segments.specs.declared.rules.FetchRule.the-variants.{Nowhere}
 use Rattle.segments.specs.declared.rules.IndexRule.the-variants.{Exactly}
 use Rattle.segments.specs.declared.rules.Presence.the-variants.{Heap}
 use Rattle.segments.specs.declared.rules.Segment.the-variants.{Is, Missing}
 use Rattle.segments.specs.declared.rules.StoreRule.the-variants.{Tag}
 use Rattle.translate.specs.Place.{refusing}
 use Rattle.translate.specs.Checks.{firstChecks, rowChecks}
-use Rattle.translate.specs.Translate.{concernedValid, owned, regionEnd, endOf, rowCheck, sourceOf, regionPlaceIn, regionPlace, placeIn, placeOf, inRow, inSegment, translateOf}
+use Rattle.translate.specs.Translate.{concernedValid, owned, running, regionEnd, endOf, rowCheck, sourceOf, regionPlaceIn, regionPlace, placeIn, placeOf, inRow, inSegment, translateOf}
 use Rattle.translate.specs.declared.place.Place.{Place}
 use Rattle.translate.specs.declared.place.Place.the-variants.{InPool}
 use Rattle.translate.specs.declared.place.Translation.{Translation}
@@ -48,15 +50,15 @@ use Rattle.history.specs.Heap.{LeftUsable}
 -- ---- an access of type 7
 
 -- its row
-heap-row : (index count : ℕ) → rowOf rules 7 index count ≡ pick (eqb index 0) (Is (row 7 (Exactly 0) Heap Tag)) Missing
-unfolding rowOf rules
-heap-row index count = refl
+heap-row : (v index count : ℕ) → segmentOf v 7 index count ≡ pick (eqb index 0) (Is (row 7 (Exactly 0) Both Heap Nowhere Tag)) Missing
+unfolding segmentOf rowOf rules
+heap-row v index count = by-test (eqb index 0) (λ e. rw e) (λ e. rw e)
 
 -- its answer in that row, by the heap's size and the place in a frame
 abbrev rowAnswer : ℕ → ℕ → ℕ → ℕ → Translation → Translation
 rowAnswer kind a n size place =
     pick (eqb (indexOf a) 0)
-    (refusing (rowChecks true (permitted kind Heap Tag false) (requestOf kind a n) (regionEnd region.Heap size (offsetOf a))) place)
+    (refusing (rowChecks true (permitted kind Nowhere Tag false false) (requestOf kind a n) (regionEnd region.Heap size (offsetOf a))) place)
     (Refused NoSegment)
 
 -- and whether the buffers are valid
@@ -69,9 +71,9 @@ heapPlace c kind a = regionPlace c region.Heap kind (offsetOf a)
 
 heap-translated : (s c p : List ℕ) (kind a n : ℕ) → typeOf a ≡ 7
     → translateOf s c p kind a n ≡ heapAnswer kind a n (buffersValid s c p) (current c .heap) (heapPlace c kind a)
-unfolding translateOf inSegment inRow rowCheck concernedValid owned endOf placeOf sourceOf placeIn
+unfolding translateOf inSegment inRow rowCheck concernedValid owned running endOf placeOf sourceOf placeIn
 heap-translated s c p kind a n t =
-    rw (t, heap-row (indexOf a) (accounts s)) (by-test (eqb (indexOf a) 0) (λ e. rw e) (λ e. rw e))
+    rw (t, heap-row (edition c) (indexOf a) (accounts s)) (by-test (eqb (indexOf a) 0) (λ e. rw e) (λ e. rw e))
 
 -- where it is allowed, so is the place
 passes : (k : Check) (t : Translation) {x : Place} → refusing k t ≡ Allowed x → t ≡ Allowed x
@@ -82,7 +84,7 @@ allowed-place : (kind a n : ℕ) (valid : Bool) (size : ℕ) (t : Translation) {
 allowed-place kind a n valid size t {x} e =
     let f : rowAnswer kind a n size t ≡ Allowed x = passes (firstChecks valid kind a n) (rowAnswer kind a n size t) e in
     by-test (eqb (indexOf a) 0)
-    (λ z. passes (rowChecks true (permitted kind Heap Tag false) (requestOf kind a n) (regionEnd region.Heap size (offsetOf a))) t (rw z at f))
+    (λ z. passes (rowChecks true (permitted kind Nowhere Tag false false) (requestOf kind a n) (regionEnd region.Heap size (offsetOf a))) t (rw z at f))
     (λ z. absurd (refused-not {r = NoSegment} {x = x} (rw z at f)))
 
 -- ---- the place after the return

@@ -18,3 +18,4 @@ pub mod Applying
 pub mod Theorem
 pub mod FrameCount
 pub mod Heap
+pub mod Editions

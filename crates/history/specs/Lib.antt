@@ -4,3 +4,4 @@ pub mod Replay
 pub mod Claims
 pub mod Heap
 pub mod Records
+pub mod Editions

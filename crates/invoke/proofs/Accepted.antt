@@ -15,7 +15,7 @@ use Rattle.snapshot.specs.Header.{accounts, snapshotValid}
 use Rattle.snapshot.specs.declared.accounts.Account.{Account}
 use Rattle.snapshot.proofs.Facts.{SnapshotFacts, snapshot-facts}
 use Rattle.snapshot.proofs.Told.{account-facts}
-use Rattle.control.specs.Control.{invocations}
+use Rattle.control.specs.Control.{invocations, editionKnown}
 use Rattle.control.proofs.Facts.{ControlFacts, BuffersFacts, control-facts, buffers-facts}
 use Rattle.invoke.specs.Invoke.{programCheck, framesIn, roomValid, startCheck, beginCheck, callCheck, returnCheck}
 use Rattle.invoke.specs.declared.begin.Start.{Start}
@@ -59,6 +59,7 @@ pub record BeginFacts (s : List ℕ) (control pool : ℕ) (x : Start) : Type 0 w
   pub snapshot : snapshotValid s ≡ true
   pub room : roomValid control pool ≡ true
   pub few-pages : x .pages ≤ 1
+  pub edition : editionKnown (x .edition) ≡ true
   pub program : programCheck s (x .program) ≡ Pass
   pub free : x .pages ≤ framesIn control
 
@@ -69,13 +70,23 @@ begin-facts s control pool x e =
     let t₂ = need-then _ _ _ (t₁ .1) in
     let t₃ = then-pass _ _ (t₂ .1) in
     let b = both-true _ _ (t₁ .0) in
+    let a = both-true _ _ (t₂ .0) in
     record {
       snapshot = b .0;
       room = b .1;
-      few-pages = leb-true _ _ (t₂ .0);
+      few-pages = leb-true _ _ (a .0);
+      edition = a .1;
       program = t₃ .0;
       free = leb-true _ _ (need-pass _ _ (t₃ .1));
     }
+
+-- what of it a fresh control block can hold and read back
+pub record StartFits (x : Start) : Type 0 where
+  pub program : x .program .0 < 65536
+  pub edition : editionKnown (x .edition) ≡ true
+
+pub begin-fits : {s : List ℕ} {control pool : ℕ} {x : Start} → BeginFacts s control pool x → StartFits x
+begin-fits {s} {x = x} f = record { program = program-fits s (x .program) (f .program) (f .snapshot); edition = f .edition }
 
 -- ---- call and return
 

@@ -1,6 +1,6 @@
 -- The stack of a program that begins: a fresh control block has no pages and every frame free, so resizing its stack to no page leaves all as
 -- it is, and to one page takes frame 0. Assumes nothing.
-use Prim.Native.Nat.{ℕ, _-_, _≤_, _<_}
+use Prim.Native.Nat.{ℕ, _-_, _≤_}
 use mathlib.Core.Path.{_≡_, ap, _∙_}
 use mathlib.Core.Bool.{true}
 use mathlib.Core.List.{List}
@@ -24,10 +24,10 @@ use Rattle.regions.specs.Resize.{Resized, growOne, grown, growCheck, growTo, re
 use Rattle.invoke.specs.Invoke.{framesIn, roomValid, beginCheck, fresh, begun, beginControl, beginPool}
 use Rattle.invoke.specs.Begun.{NoPage, OnePage, stackEntry}
 use Rattle.invoke.specs.declared.begin.Start.{Start}
-use Rattle.invoke.proofs.Accepted.{BeginFacts, begin-facts, program-fits}
+use Rattle.invoke.proofs.Accepted.{BeginFacts, begin-facts, StartFits, begin-fits}
 use Rattle.invoke.proofs.Fresh.{fresh-frames, fresh-invocations, fresh-size, fresh-free}
 
-module _ (size : ℕ) (p : List ℕ) (x : Start) (valid : roomValid size (length p) ≡ true) (fits : x .program .0 < 65536) where
+module _ (size : ℕ) (p : List ℕ) (x : Start) (valid : roomValid size (length p) ≡ true) (fits : StartFits x) where
   -- the control block before its stack is resized
   abbrev bare : List ℕ
   bare = fresh size x
@@ -97,9 +97,9 @@ module _ (s c p : List ℕ) (x : Start) (e : beginCheck s (length c) (length p) 
   facts : BeginFacts s (length c) (length p) x
   facts = begin-facts s (length c) (length p) x e
 
-  -- the program's number fits two bytes
-  pub start-fits : x .program .0 < 65536
-  start-fits = program-fits s (x .program) (facts .program) (facts .snapshot)
+  -- what is asked fits a fresh control block
+  pub start-fits : StartFits x
+  start-fits = begin-fits facts
 
   -- its stack can be resized
   pub begun-number : resizeTo (fresh (length c) x) p Stack (x .pages) .number ≡ done

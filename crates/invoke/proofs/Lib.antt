@@ -3,3 +3,4 @@ pub mod Fresh
 pub mod Begun
 pub mod Freed
 pub mod Depth
+pub mod Editions

@@ -1,5 +1,5 @@
--- Document 01, "Begin, call, return, resize": begin, call and return; document 02, "Two": begin's stack, "Four": what a return leaves.
--- Assumes nothing.
+-- Document 01, "Begin, call, return, resize": begin, call and return; document 02, "Two": begin's stack, "Four": what a return leaves, "Six":
+-- begin's edition. Assumes nothing.
 use Prim.Native.Nat.{ℕ, zero, suc, _+_, _-_, _/_}
 use mathlib.Core.Bool.{Bool}
 use mathlib.Core.List.{List, _++_}
@@ -17,7 +17,7 @@ use Rattle.snapshot.specs.Accounts.{entryOf, exists}
 use Rattle.snapshot.specs.Lookup.{accountCheck}
 use Rattle.snapshot.specs.declared.accounts.Account.{Account}
 use Rattle.control.specs.Buffers.{Buffers}
-use Rattle.control.specs.Control.{frames, invocations, depth, setInvocations, recordAt, current, putInvocation, clearInvocation, setPages, registersOf, buffersValid}
+use Rattle.control.specs.Control.{frames, invocations, depth, editionKnown, setInvocations, recordAt, current, putInvocation, clearInvocation, setPages, registersOf, buffersValid}
 use Rattle.control.specs.declared.shadow.Region.the-variants.{Stack, Heap}
 use Rattle.frames.specs.Table.{frameEntryOf, freeFrameEntry, usageOf}
 use Rattle.frames.specs.declared.table.FrameEntry.{FrameEntry}
@@ -36,17 +36,18 @@ programCheck s a =
 abbrev pub framesIn : ℕ → ℕ
 framesIn size = (size - tableAt) / frameEntrySize
 
--- "ledger length 4,504+8F for some F in range; pool 4,096F"
+-- "ledger length .. for some F in range; pool 4,096F", and "the length is 4,512+8F"
 unfoldable pub roomValid : ℕ → ℕ → Bool
 roomValid control pool =
     both (leb tableAt control)
     (both (leb (framesIn control) frameLimit)
     (both (eqb control (controlLength (framesIn control))) (eqb pool (poolLength (framesIn control)))))
 
--- "the number of pages, 0 or 1; any other is 2, right after the first 1"; the program; "With F=0 it answers 8, checked last", where a page is asked
+-- "the number of pages, 0 or 1; any other is 2, right after the first 1"; "Both begins take the edition; any other is 2, right after the first
+-- 1"; the program; "With F=0 it answers 8, checked last", where a page is asked
 unfoldable pub startCheck : List ℕ → ℕ → Start → Check
 startCheck s f x =
-    need (leb (x .pages) 1) BadRequest
+    need (both (leb (x .pages) 1) (editionKnown (x .edition))) BadRequest
     then programCheck s (x .program)
     then need (leb (x .pages) f) NoFrame
 
@@ -54,13 +55,14 @@ startCheck s f x =
 unfoldable pub beginCheck : List ℕ → ℕ → ℕ → Start → Check
 beginCheck s control pool x = need (both (snapshotValid s) (roomValid control pool)) Invalid then startCheck s (framesIn control) x
 
--- "Header of four u32: frame count F .., live invocations D .., offset of shadow frames (16), offset of the frame table (4,504)"
-unfoldable pub headerBytes : ℕ → ℕ → List ℕ
-headerBytes f d = wordBytes 4 f ++ (wordBytes 4 d ++ (wordBytes 4 shadowAt ++ wordBytes 4 tableAt))
+-- "frame count F .., live invocations D .., offset of shadow frames .., offset of the frame table", "a u32 edition .. and a zero u32"
+unfoldable pub headerBytes : ℕ → ℕ → ℕ → List ℕ
+headerBytes f d e =
+    wordBytes 4 f ++ (wordBytes 4 d ++ (wordBytes 4 shadowAt ++ (wordBytes 4 tableAt ++ (wordBytes 4 e ++ zeros 4))))
 
 -- "It writes the whole ledger: header with D=1, frame 1 with that program and no pages, zeros elsewhere."
 unfoldable pub fresh : ℕ → Start → List ℕ
-fresh size x = splice (splice (zeros size) 0 (headerBytes (framesIn size) 1)) (recordAt 1) (wordBytes 2 (x .program .0))
+fresh size x = splice (splice (zeros size) 0 (headerBytes (framesIn size) 1 (x .edition))) (recordAt 1) (wordBytes 2 (x .program .0))
 
 -- "Every mill's first call is to grow the stack to one page. Begin shall do it": the stack of a fresh control block, resized to the pages given
 unfoldable pub begun : ℕ → List ℕ → Start → Buffers

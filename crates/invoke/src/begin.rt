@@ -1,6 +1,8 @@
 // Begin: a control block for a program, written whole, and its stack.
 use super::program::program_check;
+use control::header::is_edition;
 use control::shadow::Region;
+use layout::control::EDITION_AT;
 use layout::control::FIRST_RECORD;
 use layout::control::FRAME_ENTRY;
 use layout::control::FRAMES;
@@ -24,9 +26,10 @@ ghost use Rattle.layout.specs.Control.{tableAt, frameLimit};
 ghost use Rattle.snapshot.specs.Header.{snapshotValid};
 ghost use Rattle.invoke.specs.Invoke.{framesIn, roomValid, startCheck, beginCheck, fresh, beginNumber, beginControl, beginPool};
 
-// What a begin is given: the account to run, and how many pages its stack has.
+// What a begin is given: the account to run, the edition that it was built for, and how many pages its stack has.
 pub struct Start {
     pub program: Account,
+    pub edition: u32,
     pub pages: usize,
 }
 
@@ -55,12 +58,15 @@ fn room_valid(control: usize, pool: usize) -> bool
     pool == PAGE * frames
 }
 
-// The tests of what is asked, in order: the number of pages, the program, a frame for each page.
+// The tests of what is asked, in order: the number of pages and the edition, the program, a frame for each page.
 fn start_check(s: &[u8], frames: usize, start: Start) -> Check
     requires { ⌜ snapshotValid (now s) ≡ true ⌝ }
     ensures { λ r. ⌜ r ≡ startCheck (now (s .entry)) frames start ⌝ }
 {
     if 1 < start.pages {
+        return Check::Stop(Refusal::BadRequest);
+    }
+    if is_edition(start.edition as usize) {} else {
         return Check::Stop(Refusal::BadRequest);
     }
     let program = program_check(s, start.program);
@@ -86,7 +92,7 @@ fn begin_check(s: &[u8], control: usize, pool: usize, start: Start) -> Check
     Check::Stop(Refusal::Invalid)
 }
 
-// Writes the whole control block: header with one invocation, its record with the program and no pages, zeros elsewhere.
+// Writes the whole control block: header with one invocation and the edition, its record with the program and no pages, zeros elsewhere.
 fn write_fresh(c: &mut [u8], start: Start)
     requires { ⌜ (tableAt ≤ length (now c)) × (framesIn (length (now c)) ≤ frameLimit) ⌝ }
     ensures { λ _. ⌜ now (c .exit) ≡ fresh (length (now (c .entry))) start ⌝ }
@@ -97,6 +103,7 @@ fn write_fresh(c: &mut [u8], start: Start)
     write(c, 4, 4, 1);
     write(c, 8, 4, SHADOW_AT as u64);
     write(c, 12, 4, TABLE_AT as u64);
+    write(c, EDITION_AT, 4, start.edition as u64);
     let program = start.program;
     write(c, FIRST_RECORD, 2, program.0 as u64);
 }

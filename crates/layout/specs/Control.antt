@@ -1,9 +1,26 @@
--- Document 01, "Three lent buffers": the offsets, lengths and limits of the ledger, here the control block. Assumes nothing.
+-- Document 01, "Three lent buffers", with document 02, "Six": the offsets, lengths and limits of the ledger, here the control block. Assumes
+-- nothing.
 use Prim.Native.Nat.{ℕ, _+_, _*_}
 
--- "Header of four u32"; "offset of shadow frames (16)"
+-- "Header of four u32", which "gains at its end a u32 edition": where that stands
+abbrev pub editionAt : ℕ
+editionAt = 16
+
+-- "and a zero u32"
+abbrev pub reservedAt : ℕ
+reservedAt = 20
+
+-- "1 older", the edition of source document 001
+abbrev pub older : ℕ
+older = 1
+
+-- "2 newer", that of source document 000
+abbrev pub newer : ℕ
+newer = 2
+
+-- "Shadow frames start at 24"
 abbrev pub shadowAt : ℕ
-shadowAt = 16
+shadowAt = 24
 
 -- "u16 program account, u16 stack pages": where the stack's size stands in a shadow record
 abbrev pub stackAt : ℕ
@@ -29,7 +46,7 @@ shadowSize = registersAt + registersSize
 abbrev pub liveLimit : ℕ
 liveLimit = 16
 
--- "offset of the frame table (4,504)": after "17 shadow frames"
+-- "the table at 4,512": after "17 shadow frames"
 abbrev pub tableAt : ℕ
 tableAt = shadowAt + (liveLimit + 1) * shadowSize
 
@@ -41,7 +58,7 @@ frameEntrySize = 8
 abbrev pub frameLimit : ℕ
 frameLimit = 1024
 
--- "Length 4,504+8F."
+-- "the length is 4,512+8F"
 abbrev pub controlLength : ℕ → ℕ
 controlLength f = tableAt + frameEntrySize * f
 

@@ -1,7 +1,16 @@
-// The control block: a header of four u32, the shadow records, the frame table.
+// The control block: a header of six u32, the shadow records, the frame table.
+
+// Where the edition stands in the header. The word behind it is 0.
+pub const EDITION_AT: usize = 16;
+
+// The older edition, in which a program runs from its account's data.
+pub const OLDER: usize = 1;
+
+// The newer edition, in which the program is a segment of its own.
+pub const NEWER: usize = 2;
 
 // The header's length, and so where the shadow records start.
-pub const SHADOW_AT: usize = 16;
+pub const SHADOW_AT: usize = 24;
 
 // Where the stack's size stands in a shadow record.
 pub const STACK_AT: usize = 2;

@@ -1,5 +1,5 @@
 -- Both regions are right in a fresh control block: it has no pages and no frame in use. Assumes nothing.
-use Prim.Native.Nat.{ℕ, _<_}
+use Prim.Native.Nat.{ℕ}
 use mathlib.Core.Path.{_≡_, sym, _∙_}
 use mathlib.Core.Bool.{true}
 use native.Mathlib.Omega.{arith}
@@ -9,12 +9,13 @@ use Rattle.control.specs.declared.shadow.Region.the-variants.{Stack}
 use Rattle.frames.specs.Table.{frameEntryOf}
 use Rattle.invoke.specs.Invoke.{roomValid, fresh}
 use Rattle.invoke.specs.declared.begin.Start.{Start}
+use Rattle.invoke.proofs.Accepted.{StartFits}
 use Rattle.invoke.proofs.Fresh.{fresh-invocations, fresh-size, fresh-entry}
 use Rattle.regions.proofs.Pages.{usage-some}
 use Rattle.lifecycle.specs.Regions.{Rights}
 use Rattle.lifecycle.proofs.Moves.{usage-same}
 
-module _ (size pool : ℕ) (x : Start) (valid : roomValid size pool ≡ true) (fits : x .program .0 < 65536) where
+module _ (size pool : ℕ) (x : Start) (valid : roomValid size pool ≡ true) (fits : StartFits x) where
   -- no region has pages
   none : (r : Region) → sizeOf (fresh size x) r ≡ 0
   none = fresh-size size pool x valid fits

@@ -12,7 +12,7 @@ use Rattle.control.specs.Control.{current, controlValid}
 use Rattle.control.specs.declared.shadow.Invocation.{Invocation}
 use Rattle.control.proofs.Facts.{control-facts, buffers-facts}
 use Rattle.control.proofs.Kept.{buffers-kept}
-use Rattle.frames.proofs.OnlyTable.{OnlyTable, table-same, table-put, table-current}
+use Rattle.frames.proofs.OnlyTable.{OnlyTable, table-same, table-put, table-edition, table-current}
 use Rattle.segments.specs.Kinds.{kindLoadSpan, kindStoreSpan, requestValid}
 use Rattle.segments.specs.declared.rules.Presence.{Presence}
 use Rattle.segments.specs.declared.rules.Presence.the-variants.{Transaction, Shadow, Program, Context, Metadata, Data, Stack, Heap}
@@ -83,11 +83,12 @@ reread s c p p′ a n {q} e size =
       address = x .address;
       row = x .row;
       found = x .found;
+      has = rw (table-edition o) (x .has);
       passed =
           record {
             entry = y .entry ∙ x .passed .entry;
             aligned = span-aligned kindLoadSpan (offsetOf a) n (omega arith);
-            permitted = permitted-load kindLoadSpan _ _ _ (λ k. omega arith) refl;
+            permitted = permitted-load kindLoadSpan _ _ _ _ (λ k. omega arith) refl;
             within = x .passed .within;
             present = rw (y .end) (x .passed .present);
           };

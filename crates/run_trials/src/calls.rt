@@ -10,6 +10,7 @@ use apply::apply;
 use changes::list::change_list;
 use invoke::begin::Start;
 use invoke::begin::begin;
+use layout::control::NEWER;
 use layout::list::LIST_HEADER;
 use regions::resize::resize;
 use snapshot::accounts::Account;
@@ -17,11 +18,12 @@ use words::numbers::u32_at;
 ghost use Prim.Native.Nat.{_+_, _≤_};
 ghost use lib.ListN.{length};
 
-// Begins the program, account 0, with one stack page.
+// Begins the program, account 0, in the newer edition, with one stack page.
 pub fn begin_program(snapshot: &[u8], control: &mut [u8], pool: &mut [u8]) {
     say(b"  begin 0");
     let start = Start {
         program: Account(0),
+        edition: NEWER as u32,
         pages: 1,
     };
     answered(begin(snapshot, control, pool, start));

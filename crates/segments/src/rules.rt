@@ -1,14 +1,22 @@
 // The constant table of segments, and the check that reads it.
 use super::kinds::FETCH;
 use super::kinds::is_store;
+use layout::control::NEWER;
 ghost use mathlib.Core.Path.{_≡_};
-ghost use Rattle.segments.specs.Rules.{indexMatches, rowMatches, rowOf, rules, storable, permitted, fetchable};
+ghost use Rattle.segments.specs.declared.rules.Segment.the-variants.{Is};
+ghost use Rattle.segments.specs.Rules.{indexMatches, rowMatches, editionMatches, inEdition, segmentOf, storable, permitted, fetchable};
 
 // Which indices a row is for. The index is a usize so that a row is no whole number of at most 8 bytes: such a one the compiler moves about as a
 // number, and takes apart again.
 pub enum IndexRule {
     Exactly(usize),
     AnyAccount,
+}
+
+// Which editions have a row.
+pub enum Editions {
+    Both,
+    Newer,
 }
 
 // Which bytes of a segment are present.
@@ -23,6 +31,13 @@ pub enum Presence {
     Heap,
 }
 
+// Where a fetch is allowed in a segment: nowhere, everywhere, or in the account that the older edition runs.
+pub enum FetchRule {
+    Nowhere,
+    Everywhere,
+    Running,
+}
+
 // Who may store.
 pub enum StoreRule {
     Never,
@@ -30,11 +45,13 @@ pub enum StoreRule {
     Tag,
 }
 
-// A row of the table: a segment type, its indices, its bytes present, who may store.
+// A row of the table: a segment type, its indices, the editions that have it, its bytes present, where a fetch is allowed, who may store.
 pub struct Row {
     pub segment: u8,
     pub index: IndexRule,
+    pub editions: Editions,
     pub presence: Presence,
+    pub fetch: FetchRule,
     pub store: StoreRule,
 }
 
@@ -49,49 +66,65 @@ const RULES: [Row; 8] = [
     Row {
         segment: 0,
         index: IndexRule::Exactly(1),
+        editions: Editions::Both,
         presence: Presence::Transaction,
+        fetch: FetchRule::Nowhere,
         store: StoreRule::Never,
     },
     Row {
         segment: 0,
         index: IndexRule::Exactly(2),
+        editions: Editions::Both,
         presence: Presence::Shadow,
+        fetch: FetchRule::Nowhere,
         store: StoreRule::Never,
     },
     Row {
         segment: 0,
         index: IndexRule::Exactly(3),
+        editions: Editions::Newer,
         presence: Presence::Program,
+        fetch: FetchRule::Everywhere,
         store: StoreRule::Never,
     },
     Row {
         segment: 0,
         index: IndexRule::Exactly(4),
+        editions: Editions::Both,
         presence: Presence::Context,
+        fetch: FetchRule::Nowhere,
         store: StoreRule::Never,
     },
     Row {
         segment: 2,
         index: IndexRule::AnyAccount,
+        editions: Editions::Both,
         presence: Presence::Metadata,
+        fetch: FetchRule::Nowhere,
         store: StoreRule::Never,
     },
     Row {
         segment: 3,
         index: IndexRule::AnyAccount,
+        editions: Editions::Both,
         presence: Presence::Data,
+        fetch: FetchRule::Running,
         store: StoreRule::Owner,
     },
     Row {
         segment: 5,
         index: IndexRule::Exactly(0),
+        editions: Editions::Both,
         presence: Presence::Stack,
+        fetch: FetchRule::Nowhere,
         store: StoreRule::Tag,
     },
     Row {
         segment: 7,
         index: IndexRule::Exactly(0),
+        editions: Editions::Both,
         presence: Presence::Heap,
+        fetch: FetchRule::Nowhere,
         store: StoreRule::Tag,
     },
 ];
@@ -117,35 +150,51 @@ fn row_matches(r: Row, segment: u8, index: u16, accounts: usize) -> bool
     false
 }
 
-// The segment of a type and an index, with so many accounts.
-pub fn segment_of(segment: u8, index: u16, accounts: usize) -> Segment
-    ensures { λ r. ⌜ r ≡ rowOf rules segment index accounts ⌝ }
+// Whether the column has the edition.
+fn edition_matches(e: Editions, edition: usize) -> bool
+    ensures { λ b. ⌜ b ≡ editionMatches e edition ⌝ }
+{
+    match e {
+        Editions::Both => true,
+        Editions::Newer => edition == NEWER,
+    }
+}
+
+// The segment of a row, where the edition has it. Asked outside the search's loop: in it the compiler asks first, and has the loop twice.
+fn in_edition(r: Row, edition: usize) -> Segment
+    ensures { λ x. ⌜ x ≡ inEdition edition (Is r) ⌝ }
+{
+    let editions = r.editions;
+    if edition_matches(editions, edition) {
+        return Segment::Is(r);
+    }
+    Segment::Missing
+}
+
+// The segment of a type and an index in an edition, with so many accounts.
+pub fn segment_of(edition: usize, segment: u8, index: u16, accounts: usize) -> Segment
+    ensures { λ r. ⌜ r ≡ segmentOf edition segment index accounts ⌝ }
 {
     let rows = RULES;
     let mut i: usize = 0;
     while i < 8 {
         let r = rows[i];
         if row_matches(r, segment, index, accounts) {
-            return Segment::Is(r);
+            return in_edition(r, edition);
         }
         i += 1;
     }
     Segment::Missing
 }
 
-// Whether a segment may be fetched from.
-fn fetchable(p: Presence) -> bool
-    ensures { λ r. ⌜ r ≡ fetchable p ⌝ }
+// Whether the fetch rule lets a fetch pass. `running` says whether the segment is the data of the account that the older edition runs.
+fn fetchable(rule: FetchRule, running: bool) -> bool
+    ensures { λ r. ⌜ r ≡ fetchable rule running ⌝ }
 {
-    match p {
-        Presence::Program => true,
-        Presence::Transaction => false,
-        Presence::Shadow => false,
-        Presence::Context => false,
-        Presence::Metadata => false,
-        Presence::Data => false,
-        Presence::Stack => false,
-        Presence::Heap => false,
+    match rule {
+        FetchRule::Nowhere => false,
+        FetchRule::Everywhere => true,
+        FetchRule::Running => running,
     }
 }
 
@@ -162,14 +211,14 @@ fn storable(rule: StoreRule, owned: bool) -> bool
 }
 
 // Whether the table's fixed, account and fetch rules permit the kind.
-pub fn permitted(kind: u8, p: Presence, rule: StoreRule, owned: bool) -> bool
-    ensures { λ r. ⌜ r ≡ permitted kind p rule owned ⌝ }
+pub fn permitted(kind: u8, fetch: FetchRule, store: StoreRule, running: bool, owned: bool) -> bool
+    ensures { λ r. ⌜ r ≡ permitted kind fetch store running owned ⌝ }
 {
     if kind == FETCH {
-        return fetchable(p);
+        return fetchable(fetch, running);
     }
     if is_store(kind) {
-        return storable(rule, owned);
+        return storable(store, owned);
     }
     true
 }

@@ -1,8 +1,10 @@
 // A control block with as many frames as there can be, of which frame i holds page i.
 use frames::table::FrameEntry;
 use frames::table::put_frame_entry;
+use layout::control::EDITION_AT;
 use layout::control::FRAME_ENTRY;
 use layout::control::FRAMES;
+use layout::control::NEWER;
 use layout::control::SHADOW_AT;
 use layout::control::TABLE_AT;
 use pages::Frame;
@@ -36,6 +38,7 @@ fn write_header(c: &mut [u8])
     write(c, 4, 4, 1);
     write(c, 8, 4, SHADOW_AT as u64);
     write(c, 12, 4, TABLE_AT as u64);
+    write(c, EDITION_AT, 4, NEWER as u64);
 }
 
 // Writes header and entries.

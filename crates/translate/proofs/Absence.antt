@@ -149,7 +149,7 @@ pub record AbsentAt (s c : List ℕ) (a n d : ℕ) : Type 0 where
 pub absent-law : (s c p : List ℕ) (kind a n d : ℕ) → translateOf s c p kind a n ≡ Refused (Absent d) → AbsentAt s c a n d
 absent-law s c p kind a n d e =
     let x = in-row s c p kind a n absent absent-apart e refl in
-    let t = row-tested s c (x .row .presence) (x .row .store) (requestOf kind a n) absent absent-apart _ refl (x .given) in
+    let t = row-tested s c (x .row .presence) (x .row .fetch) (x .row .store) (requestOf kind a n) absent absent-apart _ refl (x .given) in
     let k = counted s c (x .row .presence) (requestOf kind a n) d (t .1) in
     let some : 1 ≤ n = request-length kind n (x .request) .0 in
     record { row = x .row; found = x .found; bytes = absence-in s c kind a n d some (t .0 .within) (x .row .presence) (k .0) (k .1) }

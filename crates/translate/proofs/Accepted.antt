@@ -20,9 +20,10 @@ use Rattle.address.specs.Address.{typeOf, indexOf, offsetOf}
 use Rattle.snapshot.specs.Header.{accounts}
 use Rattle.snapshot.specs.Accounts.{entryOf, entryValid, dataLength}
 use Rattle.snapshot.specs.declared.accounts.Account.{Account}
-use Rattle.control.specs.Control.{buffersValid}
+use Rattle.control.specs.Control.{edition, buffersValid}
 use Rattle.segments.specs.Kinds.{requestValid, aligned, within}
-use Rattle.segments.specs.Rules.{rules, rowOf, permitted}
+use Rattle.segments.specs.Rules.{rules, rowOf, editionMatches, segmentOf, permitted}
+use Rattle.segments.specs.declared.rules.FetchRule.{FetchRule}
 use Rattle.segments.specs.declared.rules.Presence.{Presence}
 use Rattle.segments.specs.declared.rules.Presence.the-variants.{Transaction, Shadow, Program, Context, Metadata, Data, Stack, Heap}
 use Rattle.segments.specs.declared.rules.Row.{Row}
@@ -30,10 +31,10 @@ use Rattle.segments.specs.declared.rules.Segment.{Segment}
 use Rattle.segments.specs.declared.rules.Segment.the-variants.{Is, Missing}
 use Rattle.segments.specs.declared.rules.StoreRule.{StoreRule}
 use Rattle.segments.proofs.Requests.{request-length, within-length}
-use Rattle.segments.proofs.Table.{type-data, data-known, metadata-known}
+use Rattle.segments.proofs.Table.{type-data, data-known, metadata-known, segment-found, segment-is}
 use Rattle.translate.specs.Place.{refusing}
 use Rattle.translate.specs.Checks.{firstChecks, rowChecks}
-use Rattle.translate.specs.Translate.{concernedValid, owned, endOf, rowCheck, startOf, sourceOf, dataPlace, placeIn, placeOf, inRow, inSegment, translateOf, Named}
+use Rattle.translate.specs.Translate.{concernedValid, owned, running, endOf, rowCheck, startOf, sourceOf, dataPlace, placeIn, placeOf, inRow, inSegment, translateOf, Named}
 use Rattle.translate.specs.declared.place.Translation.{Translation}
 use Rattle.translate.specs.declared.place.Translation.the-variants.{Allowed, Refused}
 use Rattle.translate.specs.declared.request.Request.{Request}
@@ -91,10 +92,10 @@ peel f t l false r y h e = absurd (differ (f t) l (ap f (sym e) ∙ h))
 -- ---- the tests before presence
 
 -- what those of a row ask
-pub record RowTested (s c : List ℕ) (p : Presence) (rule : StoreRule) (q : Request) : Type 0 where
+pub record RowTested (s c : List ℕ) (p : Presence) (fetch : FetchRule) (store : StoreRule) (q : Request) : Type 0 where
   pub entry : concernedValid s c p q ≡ true
   pub aligned : aligned (q .kind) (q .offset) (q .length) ≡ true
-  pub permitted : permitted (q .kind) p rule (owned s c p q) ≡ true
+  pub permitted : permitted (q .kind) fetch store (running c p q) (owned s c p q) ≡ true
   pub within : q .offset % pageSize + q .length ≤ pageSize
 
 -- the test of presence, then the place
@@ -102,10 +103,10 @@ abbrev pub presentPlace : List ℕ → List ℕ → Presence → Request → Tra
 presentPlace s c p q = refusing (need (leb (q .offset + q .length) (endOf s c p q)) (Absent (endOf s c p q - q .offset))) (placeOf s c p q)
 
 -- an answer that passes such a test comes after them
-pub row-tested : (s c : List ℕ) (p : Presence) (rule : StoreRule) (q : Request) (f : Translation → Bool) → Apart f → (t : Translation) → f t ≡ true
-    → inRow s c p rule q ≡ t → RowTested s c p rule q × (presentPlace s c p q ≡ t)
+pub row-tested : (s c : List ℕ) (p : Presence) (fetch : FetchRule) (store : StoreRule) (q : Request) (f : Translation → Bool) → Apart f → (t : Translation) → f t ≡ true
+    → inRow s c p fetch store q ≡ t → RowTested s c p fetch store q × (presentPlace s c p q ≡ t)
 unfolding inRow rowCheck rowChecks
-row-tested s c p rule q f x t l e =
+row-tested s c p fetch store q f x t l e =
     let h₁ = peel f t l _ Invalid _ (x .invalid) (simp refusing-then at e) in
     let h₂ = peel f t l _ Misaligned _ (x .alignment) (h₁ .1) in
     let h₃ = peel f t l _ NotPermitted _ (x .permission) (h₂ .1) in
@@ -119,16 +120,19 @@ pub record InRow (s c p : List ℕ) (kind a n : ℕ) (t : Translation) : Type 0 
   pub address : a < addresses
   pub row : Row
   pub found : rowOf rules (typeOf a) (indexOf a) (accounts s) ≡ Is row
-  pub given : inRow s c (row .presence) (row .store) (requestOf kind a n) ≡ t
+  pub has : editionMatches (row .editions) (edition c) ≡ true
+  pub given : inRow s c (row .presence) (row .fetch) (row .store) (requestOf kind a n) ≡ t
 
 module _ (s c p : List ℕ) (kind a n : ℕ) (f : Translation → Bool) (x : Apart f) where
   -- once the first tests have passed
   in-segment : {t : Translation} → f t ≡ true → buffersValid s c p ≡ true → requestValid kind n ≡ true → a < addresses
-      → (g : Segment) → rowOf rules (typeOf a) (indexOf a) (accounts s) ≡ g → inSegment s c g (requestOf kind a n) ≡ t
+      → (g : Segment) → segmentOf (edition c) (typeOf a) (indexOf a) (accounts s) ≡ g → inSegment s c g (requestOf kind a n) ≡ t
       → InRow s c p kind a n t
   unfolding inSegment
   in-segment {t} l b v h Missing w e = absurd (differ (f t) l (ap f (sym e) ∙ x .segment))
-  in-segment l b v h (Is r) w e = record { buffers = b; request = v; address = h; row = r; found = w; given = e }
+  in-segment l b v h (Is r) w e =
+      let g = segment-found (edition c) (typeOf a) (indexOf a) (accounts s) r w in
+      record { buffers = b; request = v; address = h; row = r; found = g .0; has = g .1; given = e }
 
   -- an answer that passes such a test comes from a row
   pub in-row : {t : Translation} → translateOf s c p kind a n ≡ t → f t ≡ true → InRow s c p kind a n t
@@ -142,10 +146,10 @@ module _ (s c p : List ℕ) (kind a n : ℕ) (f : Translation → Bool) (x : Apa
 -- ---- all tests
 
 -- what the tests of a row ask
-pub record RowPassed (s c : List ℕ) (p : Presence) (rule : StoreRule) (q : Request) : Type 0 where
+pub record RowPassed (s c : List ℕ) (p : Presence) (fetch : FetchRule) (store : StoreRule) (q : Request) : Type 0 where
   pub entry : concernedValid s c p q ≡ true
   pub aligned : aligned (q .kind) (q .offset) (q .length) ≡ true
-  pub permitted : permitted (q .kind) p rule (owned s c p q) ≡ true
+  pub permitted : permitted (q .kind) fetch store (running c p q) (owned s c p q) ≡ true
   pub within : q .offset % pageSize + q .length ≤ pageSize
   pub present : q .offset + q .length ≤ endOf s c p q
 
@@ -155,10 +159,10 @@ last-apart =
     record { invalid = refl; request = refl; address = refl; segment = refl; alignment = refl; permission = refl; crossing = refl }
 
 -- before an answer that no test gives, they passed
-row-passed : (s c : List ℕ) (p : Presence) (rule : StoreRule) (q : Request) (t : Translation) → last t ≡ true → inRow s c p rule q ≡ t
-    → RowPassed s c p rule q × (placeOf s c p q ≡ t)
-row-passed s c p rule q t l e =
-    let x = row-tested s c p rule q last last-apart t l e in
+row-passed : (s c : List ℕ) (p : Presence) (fetch : FetchRule) (store : StoreRule) (q : Request) (t : Translation) → last t ≡ true → inRow s c p fetch store q ≡ t
+    → RowPassed s c p fetch store q × (placeOf s c p q ≡ t)
+row-passed s c p fetch store q t l e =
+    let x = row-tested s c p fetch store q last last-apart t l e in
     let h = peel last t l _ (Absent _) _ refl (x .1) in (
       record {
         entry = x .0 .entry;
@@ -177,15 +181,16 @@ pub record Accepted (s c p : List ℕ) (kind a n : ℕ) (t : Translation) : Type
   pub address : a < addresses
   pub row : Row
   pub found : rowOf rules (typeOf a) (indexOf a) (accounts s) ≡ Is row
-  pub passed : RowPassed s c (row .presence) (row .store) (requestOf kind a n)
+  pub has : editionMatches (row .editions) (edition c) ≡ true
+  pub passed : RowPassed s c (row .presence) (row .fetch) (row .store) (requestOf kind a n)
   pub place : placeOf s c (row .presence) (requestOf kind a n) ≡ t
 
 -- an answer that no test gives comes after all of them
 pub accepted : (s c p : List ℕ) (kind a n : ℕ) {t : Translation} → translateOf s c p kind a n ≡ t → last t ≡ true → Accepted s c p kind a n t
 accepted s c p kind a n {t} e l =
     let x = in-row s c p kind a n last last-apart e l in
-    let w = row-passed s c (x .row .presence) (x .row .store) (requestOf kind a n) t l (x .given) in
-    record { buffers = x .buffers; request = x .request; address = x .address; row = x .row; found = x .found; passed = w .0; place = w .1 }
+    let w = row-passed s c (x .row .presence) (x .row .fetch) (x .row .store) (requestOf kind a n) t l (x .given) in
+    record { buffers = x .buffers; request = x .request; address = x .address; row = x .row; found = x .found; has = x .has; passed = w .0; place = w .1 }
 
 -- and where they all passed, the place of the row is the answer
 pub accepted-answer : {s c p : List ℕ} {kind a n : ℕ} {t : Translation} → Accepted s c p kind a n t → translateOf s c p kind a n ≡ t
@@ -195,7 +200,7 @@ accepted-answer x =
       x .buffers,
       x .request,
       lt-ltb _ _ (x .address),
-      x .found,
+      segment-is _ _ _ _ _ (x .found) (x .has),
       x .passed .entry,
       x .passed .aligned,
       x .passed .permitted,
@@ -227,7 +232,7 @@ data-accepted s c p kind a n e l type =
     let x = accepted s c p kind a n e l in
     let f : rowOf rules 3 (indexOf a) (accounts s) ≡ Is (x .row) = rw type at (x .found) in
     let d : x .row .presence ≡ Data = type-data (indexOf a) (accounts s) (x .row) f in
-    let w : RowPassed s c Data (x .row .store) (requestOf kind a n) = rw d at (x .passed) in
+    let w : RowPassed s c Data (x .row .fetch) (x .row .store) (requestOf kind a n) = rw d at (x .passed) in
     let some : 1 ≤ n = request-length kind n (x .request) .0 in (
       record {
         type = type;

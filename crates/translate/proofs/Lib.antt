@@ -5,3 +5,4 @@ pub mod Answered
 pub mod Accepted
 pub mod Stores
 pub mod Places
+pub mod Fetches

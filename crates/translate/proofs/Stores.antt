@@ -179,11 +179,11 @@ module _ {s c p : List ℕ} {kind a n : ℕ} {t : Translation} (x : Accepted s c
       → Answer s c p kind a n (Allowed q)
   plain-at r h e none fits =
       let v : x .row .store ≡ Never = plain-never (typeOf a) (indexOf a) (accounts s) (x .row) (x .found) r h e in
-      plain (fails (isStore kind) (λ k. differ _ (rw v at (x .passed .permitted)) (permitted-store kind (x .row .presence) Never _ k)))
+      plain (fails (isStore kind) (λ k. differ _ (rw v at (x .passed .permitted)) (permitted-store kind (x .row .fetch) Never _ _ k)))
       (other-type r (λ o. let z : _≡_ {A = ℕ} 0 1 = cc in omega arith) e) none fits
 
   -- by the row's presence
-  answer-at : BuffersFacts s c p → 1 ≤ n → (r : Presence) → x .row .presence ≡ r → RowPassed s c r (x .row .store) (requestOf kind a n)
+  answer-at : BuffersFacts s c p → 1 ≤ n → (r : Presence) → x .row .presence ≡ r → RowPassed s c r (x .row .fetch) (x .row .store) (requestOf kind a n)
       → Answer s c p kind a n (placeOf s c r (requestOf kind a n))
   unfolding concernedValid endOf startOf sourceOf placeIn placeOf
   answer-at b some Transaction i h =

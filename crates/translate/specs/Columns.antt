@@ -13,9 +13,9 @@ use Rattle.control.specs.Control.{pagesOf}
 use Rattle.control.specs.declared.shadow.Invocation.{Invocation}
 use Rattle.control.specs.declared.shadow.Region.{Region}
 use Rattle.segments.specs.Rules.{permitted}
-use Rattle.segments.specs.declared.rules.Presence.the-variants.{Data}
+use Rattle.segments.specs.declared.rules.FetchRule.{FetchRule}
 use Rattle.segments.specs.declared.rules.StoreRule.{StoreRule}
-use Rattle.translate.specs.Translate.{ownedBy, contextEnd, regionEnd, metadataBuffer, noEntry}
+use Rattle.translate.specs.Translate.{ownedBy, runs, contextEnd, regionEnd, metadataBuffer, noEntry}
 use Rattle.translate.specs.declared.request.Request.{Request}
 use Rattle.translate.specs.declared.sought.Sought.{Sought}
 use Rattle.translate.specs.declared.sought.Source.{Source}
@@ -50,10 +50,10 @@ ofMetadata h e a permitted offset =
     pick (validWithin (h .«data_at») (h .total) e) (asked permitted metadataSize (source.Plain (metadataBuffer e)) (metadataAt a + offset)) noEntry
 
 -- type 3
-abbrev pub ofData : Header → AccountEntry → Account → StoreRule → Request → Sought
-ofData h e program rule q =
+abbrev pub ofData : Header → AccountEntry → Account → Account → ℕ → FetchRule → StoreRule → Request → Sought
+ofData h e a program edition fetch store q =
     pick (validWithin (h .«data_at») (h .total) e)
-    (asked (permitted (q .kind) Data rule (ownedBy e program)) (dataLength e) source.Copy (e .start + q .offset))
+    (asked (permitted (q .kind) fetch store (runs edition a program) (ownedBy e program)) (dataLength e) source.Copy (e .start + q .offset))
     noEntry
 
 -- types 5 and 7

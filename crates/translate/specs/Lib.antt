@@ -4,3 +4,4 @@ pub mod Translate
 pub mod Columns
 pub mod Fits
 pub mod Presence
+pub mod Fetches

@@ -1,11 +1,11 @@
--- Document 01, "Addresses and segments", "Order for an access" and "Copies": translation. Assumes nothing.
+-- Document 01, "Addresses and segments", "Order for an access" and "Copies", with document 02, "Six": translation. Assumes nothing.
 use Prim.Native.Nat.{ℕ, _+_, _-_, _*_, _/_, _%_, _<_}
 use mathlib.Core.Path.{_≡_}
 use mathlib.Core.Bool.{Bool, true, false, not}
 use mathlib.Core.List.{List}
 use lib.Dec.{ltb, leb, eqb}
 use Rattle.layout.specs.Page.{pageSize}
-use Rattle.layout.specs.Control.{shadowAt, tableAt}
+use Rattle.layout.specs.Control.{older, shadowAt, tableAt}
 use Rattle.layout.specs.Snapshot.{contextSize, metadataSize}
 use Rattle.layout.specs.Address.{offsets}
 use Rattle.choice.specs.Choice.{pick, both, either}
@@ -16,7 +16,7 @@ use Rattle.snapshot.specs.Header.{headerOf, accounts, contexts, transaction, sn
 use Rattle.snapshot.specs.Accounts.{entryOf, entryValid, exists, writable, dataLength, metadataAt, known}
 use Rattle.snapshot.specs.declared.accounts.Account.{Account}
 use Rattle.snapshot.specs.declared.accounts.AccountEntry.{AccountEntry}
-use Rattle.control.specs.Control.{depth, current, controlValid, currentValid, buffersValid}
+use Rattle.control.specs.Control.{depth, edition, current, controlValid, currentValid, buffersValid}
 use Rattle.control.specs.declared.shadow.Region.{Region}
 use Rattle.control.specs.declared.shadow.Region.the-variants as region
 use Rattle.pages.specs.Pages.{inFrame, pageOf}
@@ -25,9 +25,10 @@ use Rattle.frames.specs.declared.claim.Claim.the-variants.{Copy, Anonymous}
 use Rattle.frames.specs.declared.claim.Found.{Found}
 use Rattle.frames.specs.declared.claim.Found.the-variants.{At, Nothing}
 use Rattle.segments.specs.Kinds.{isStore, requestValid}
-use Rattle.segments.specs.Rules.{rules, rowOf, permitted}
+use Rattle.segments.specs.Rules.{segmentOf, permitted}
 use Rattle.segments.specs.declared.rules.Presence.{Presence}
 use Rattle.segments.specs.declared.rules.Presence.the-variants.{Transaction, Shadow, Program, Context, Metadata, Data, Stack, Heap}
+use Rattle.segments.specs.declared.rules.FetchRule.{FetchRule}
 use Rattle.segments.specs.declared.rules.StoreRule.{StoreRule}
 use Rattle.segments.specs.declared.rules.Segment.{Segment}
 use Rattle.segments.specs.declared.rules.Segment.the-variants.{Is, Missing}
@@ -80,6 +81,21 @@ owned s c Data q = ownedBy (entryOf s (indexed q)) (program c)
 owned s c Stack q = false
 owned s c Heap q = false
 
+-- "the current program's account", in the older edition
+abbrev pub runs : ℕ → Account → Account → Bool
+runs e a b = both (eqb e older) (eqb (a .0) (b .0))
+
+-- the same of the account whose data the segment is; the other segments are no account's data
+unfoldable pub running : List ℕ → Presence → Request → Bool
+running c Transaction q = false
+running c Shadow q = false
+running c Program q = false
+running c Context q = false
+running c Metadata q = false
+running c Data q = runs (edition c) (indexed q) (program c)
+running c Stack q = false
+running c Heap q = false
+
 -- block context: "offset/4,096 below B and remainder below 120"
 abbrev pub contextEnd : ℕ → ℕ → ℕ
 contextEnd count offset = pick (ltb (offset / pageSize) count) (pageSize * (offset / pageSize) + contextSize) 0
@@ -101,8 +117,9 @@ endOf s c Stack q = regionEnd region.Stack (current c .stack) (q .offset)
 endOf s c Heap q = regionEnd region.Heap (current c .heap) (q .offset)
 
 -- the row's tests, in order
-unfoldable pub rowCheck : List ℕ → List ℕ → Presence → StoreRule → Request → Check
-rowCheck s c p rule q = rowChecks (concernedValid s c p q) (permitted (q .kind) p rule (owned s c p q)) q (endOf s c p q)
+unfoldable pub rowCheck : List ℕ → List ℕ → Presence → FetchRule → StoreRule → Request → Check
+rowCheck s c p fetch store q =
+    rowChecks (concernedValid s c p q) (permitted (q .kind) fetch store (running c p q) (owned s c p q)) q (endOf s c p q)
 
 -- where the first byte stands in its buffer, frames aside: by the column "Bytes present"; a region's bytes stand in frames alone
 unfoldable pub startOf : List ℕ → List ℕ → Presence → Request → ℕ
@@ -135,12 +152,12 @@ unfoldable pub noEntry : Sought
 noEntry = record { entry = false; permitted = false; end = 0; source = source.Plain buffer.Zeros; at = 0 }
 
 -- what a row asks of the buffers, column by column
-unfoldable pub soughtOf : List ℕ → List ℕ → Presence → StoreRule → Request → Sought
-soughtOf s c p rule q =
+unfoldable pub soughtOf : List ℕ → List ℕ → Presence → FetchRule → StoreRule → Request → Sought
+soughtOf s c p fetch store q =
     pick (concernedValid s c p q)
     (record {
       entry = true;
-      permitted = permitted (q .kind) p rule (owned s c p q);
+      permitted = permitted (q .kind) fetch store (running c p q) (owned s c p q);
       end = endOf s c p q;
       source = sourceOf s p q;
       at = startOf s c p q;
@@ -203,22 +220,22 @@ unfoldable pub answerOf : List ℕ → Request → Sought → Translation
 answerOf c q x = tested q x (placeIn c q (x .source) (x .at))
 
 -- the row's tests, then the place
-unfoldable pub inRow : List ℕ → List ℕ → Presence → StoreRule → Request → Translation
-inRow s c p rule q = refusing (rowCheck s c p rule q) (placeOf s c p q)
+unfoldable pub inRow : List ℕ → List ℕ → Presence → FetchRule → StoreRule → Request → Translation
+inRow s c p fetch store q = refusing (rowCheck s c p fetch store q) (placeOf s c p q)
 
 -- ---- translation
 
 -- "4", and then the row's
 unfoldable pub inSegment : List ℕ → List ℕ → Segment → Request → Translation
 inSegment s c Missing q = Refused NoSegment
-inSegment s c (Is r) q = inRow s c (r .presence) (r .store) q
+inSegment s c (Is r) q = inRow s c (r .presence) (r .fetch) (r .store) q
 
 -- "Translation changes nothing and answers one of: a place in ground, a place in ledger, zeros, a place in pool, a frame that
 -- would be taken for a copy, or a refusal."
 unfoldable pub translateOf : List ℕ → List ℕ → List ℕ → ℕ → ℕ → ℕ → Translation
 translateOf s c p kind a n =
     refusing (firstChecks (buffersValid s c p) kind a n)
-    (inSegment s c (rowOf rules (typeOf a) (indexOf a) (accounts s))
+    (inSegment s c (segmentOf (edition c) (typeOf a) (indexOf a) (accounts s))
     (record { kind = kind; index = indexOf a; offset = offsetOf a; length = n }))
 
 -- the account that a segment's index names is below A: "4" has been asked

@@ -4,8 +4,9 @@ use super::sought::Buffer;
 use super::sought::Sought;
 use super::sought::Source;
 use super::sought::no_entry;
+use layout::control::OLDER;
 use layout::snapshot::METADATA;
-use segments::rules::Presence;
+use segments::rules::FetchRule;
 use segments::rules::StoreRule;
 use segments::rules::permitted;
 use snapshot::accounts::Account;
@@ -19,7 +20,7 @@ ghost use lib.ListN.{length};
 ghost use Rattle.layout.specs.Address.{offsets};
 ghost use Rattle.layout.specs.Snapshot.{entrySize};
 ghost use Rattle.snapshot.specs.Accounts.{entryAt, entryOf};
-ghost use Rattle.translate.specs.Translate.{ownedBy, metadataBuffer};
+ghost use Rattle.translate.specs.Translate.{ownedBy, runs, metadataBuffer};
 ghost use Rattle.translate.specs.Columns.{ofProgram, ofMetadata, ofData};
 
 // Whether the account may be written and is the program's.
@@ -79,17 +80,29 @@ pub fn of_metadata(s: &[u8], h: Header, a: Account, permitted: bool, offset: usi
     }
 }
 
-// An account's data, as the snapshot has it; the rule asks for the owner.
+// Whether the account is the one that the older edition runs.
+fn runs(edition: usize, a: Account, program: Account) -> bool
+    ensures { λ r. ⌜ r ≡ runs edition a program ⌝ }
+{
+    if edition == OLDER {
+        return a.0 == program.0;
+    }
+    false
+}
+
+// An account's data, as the snapshot has it; the rules ask whether the account runs and for its owner.
 pub fn of_data(
     s: &[u8],
     h: Header,
     a: Account,
     program: Account,
-    rule: StoreRule,
+    edition: usize,
+    fetch: FetchRule,
+    store: StoreRule,
     q: Request,
 ) -> Sought
     requires { ⌜ (h .total ≡ length (now s)) × (entryAt a + entrySize ≤ length (now s)) × (q .offset < offsets) ⌝ }
-    ensures { λ r. ⌜ r ≡ ofData h (entryOf (now (s .entry)) a) program rule q ⌝ }
+    ensures { λ r. ⌜ r ≡ ofData h (entryOf (now (s .entry)) a) a program edition fetch store q ⌝ }
 {
     let e = whole_account_entry(s, a);
     if e.valid(h.data_at, s.len()) {} else {
@@ -97,7 +110,13 @@ pub fn of_data(
     }
     Sought {
         entry: true,
-        permitted: permitted(q.kind, Presence::Data, rule, owned_by(e, program)),
+        permitted: permitted(
+            q.kind,
+            fetch,
+            store,
+            runs(edition, a, program),
+            owned_by(e, program),
+        ),
         end: e.data_length(),
         source: Source::Copy,
         at: e.start + q.offset,

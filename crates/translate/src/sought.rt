@@ -7,9 +7,11 @@ use super::request::Request;
 use super::vm::of_context;
 use super::vm::of_shadow;
 use super::vm::of_transaction;
+use control::header::edition_of;
 use control::header::invocation_count;
 use control::shadow::Region;
 use control::shadow::invocation_at;
+use segments::rules::FetchRule;
 use segments::rules::Presence;
 use segments::rules::StoreRule;
 use segments::rules::permitted;
@@ -56,34 +58,56 @@ pub fn no_entry() -> Sought
     }
 }
 
-// What the row with this presence and this rule asks. Permission is asked in each arm, where the row is a constant to the compiler.
-pub fn sought_of(s: &[u8], c: &[u8], p: Presence, rule: StoreRule, q: Request) -> Sought
+// What the row with this presence and these rules asks. Permission is asked in each arm, where the row is a constant to the compiler.
+pub fn sought_of(
+    s: &[u8],
+    c: &[u8],
+    p: Presence,
+    fetch: FetchRule,
+    store: StoreRule,
+    q: Request,
+) -> Sought
     requires { ⌜ Ready (now s) (now c) q ⌝ }
     requires { ⌜ Named (now s) p q ⌝ }
-    ensures { λ r. ⌜ r ≡ soughtOf (now (s .entry)) (now (c .entry)) p rule q ⌝ }
+    ensures { λ r. ⌜ r ≡ soughtOf (now (s .entry)) (now (c .entry)) p fetch store q ⌝ }
 {
     let h = whole_header(s);
     let i = invocation_at(c, invocation_count(c));
     let a = Account(q.index);
     match p {
-        Presence::Data => of_data(s, h, a, i.program, rule, q),
+        Presence::Data => of_data(s, h, a, i.program, edition_of(c), fetch, store, q),
         Presence::Program => of_program(
             s,
             h,
             i.program,
-            permitted(q.kind, p, rule, false),
+            permitted(q.kind, fetch, store, false, false),
             q.offset,
         ),
-        Presence::Transaction => of_transaction(h, permitted(q.kind, p, rule, false), q.offset),
-        Presence::Shadow => of_shadow(permitted(q.kind, p, rule, false), q.offset),
-        Presence::Context => of_context(h, permitted(q.kind, p, rule, false), q.offset),
-        Presence::Metadata => of_metadata(s, h, a, permitted(q.kind, p, rule, false), q.offset),
+        Presence::Transaction => of_transaction(
+            h,
+            permitted(q.kind, fetch, store, false, false),
+            q.offset,
+        ),
+        Presence::Shadow => of_shadow(permitted(q.kind, fetch, store, false, false), q.offset),
+        Presence::Context => of_context(h, permitted(q.kind, fetch, store, false, false), q.offset),
+        Presence::Metadata => of_metadata(
+            s,
+            h,
+            a,
+            permitted(q.kind, fetch, store, false, false),
+            q.offset,
+        ),
         Presence::Stack => of_region(
             i,
             Region::Stack,
-            permitted(q.kind, p, rule, false),
+            permitted(q.kind, fetch, store, false, false),
             q.offset,
         ),
-        Presence::Heap => of_region(i, Region::Heap, permitted(q.kind, p, rule, false), q.offset),
+        Presence::Heap => of_region(
+            i,
+            Region::Heap,
+            permitted(q.kind, fetch, store, false, false),
+            q.offset,
+        ),
     }
 }

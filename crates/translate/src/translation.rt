@@ -6,6 +6,7 @@ use super::request::Request;
 use super::sought::sought_of;
 use address::Address;
 use control::buffers::control_ready;
+use control::header::edition_of;
 use refusal::Check;
 use refusal::Refusal;
 use segments::rules::Row;
@@ -20,11 +21,12 @@ ghost use Rattle.translate.specs.Translate.{Ready, Named, inRow, transla
 fn in_row(s: &[u8], c: &[u8], row: Row, q: Request) -> Translation
     requires { ⌜ Ready (now s) (now c) q ⌝ }
     requires { ⌜ Named (now s) (row .presence) q ⌝ }
-    ensures { λ r. ⌜ r ≡ inRow (now (s .entry)) (now (c .entry)) (row .presence) (row .store) q ⌝ }
+    ensures { λ r. ⌜ r ≡ inRow (now (s .entry)) (now (c .entry)) (row .presence) (row .fetch) (row .store) q ⌝ }
 {
     let presence = row.presence;
-    let rule = row.store;
-    let x = sought_of(s, c, presence, rule, q);
+    let fetch = row.fetch;
+    let store = row.store;
+    let x = sought_of(s, c, presence, fetch, store, q);
     answer(c, q, x)
 }
 
@@ -41,7 +43,7 @@ pub fn translate(s: &[u8], c: &[u8], pool: &[u8], kind: u8, a: Address, n: usize
         return Translation::Refused(r);
     }
     let index = a.index();
-    let found = segment_of(a.segment_type(), index, h.accounts);
+    let found = segment_of(edition_of(c), a.segment_type(), index, h.accounts);
     let Segment::Is(row) = found else {
         return Translation::Refused(Refusal::NoSegment);
     };

@@ -10,18 +10,18 @@ use Rattle.refusal.specs.Checks.{need, _then_}
 use Rattle.address.specs.Address.{splitOf}
 use Rattle.snapshot.specs.Header.{headerOf, countsValid, offsetsValid, totalValid, snapshotValid}
 use Rattle.snapshot.specs.Accounts.{entryOf, bodyValid, validWithin, entryValid}
-use Rattle.control.specs.Control.{controlValid, invocationOf, invocationBytes, currentValid, controlReady, buffersValid}
+use Rattle.control.specs.Control.{editionKnown, controlValid, invocationOf, invocationBytes, currentValid, controlReady, buffersValid}
 use Rattle.frames.specs.Table.{frameField, frameEntryBytes, claims, isFree, foundIn, frameOf, freeFrame}
 use Rattle.segments.specs.Kinds.{requestValid, aligned, within}
-use Rattle.segments.specs.Rules.{rules, rowOf, permitted}
+use Rattle.segments.specs.Rules.{rules, rowOf, segmentOf, permitted}
 use Rattle.translate.specs.Checks.{firstChecks, rowChecks}
-use Rattle.translate.specs.Translate.{concernedValid, owned, endOf, startOf, sourceOf, rowCheck, dataPlace, regionPlace, placeIn, placeOf, inRow, inSegment, translateOf}
-use Rattle.trials.specs.Settings.{entryBytes, snapshotHeader, snapshotWith, controlWith, plain, onePage}
+use Rattle.translate.specs.Translate.{concernedValid, owned, running, endOf, startOf, sourceOf, rowCheck, dataPlace, regionPlace, placeIn, placeOf, inRow, inSegment, translateOf}
+use Rattle.trials.specs.Settings.{entryBytes, snapshotHeader, snapshotWith, controlWith, plain, plainOlder, onePage}
 use Rattle.trials.specs.Trials.{Trial, trials, splitGives, passes, allPass}
 
 -- the trials marked P
 pub table : T (allPass trials)
-unfolding wordAt wordBytes zeros seek need _then_ splitOf headerOf countsValid offsetsValid totalValid snapshotValid entryOf bodyValid validWithin entryValid controlValid invocationOf invocationBytes currentValid buffersValid controlReady frameField frameEntryBytes claims isFree foundIn frameOf freeFrame requestValid aligned within rules rowOf permitted firstChecks rowChecks concernedValid owned endOf startOf sourceOf rowCheck dataPlace regionPlace placeIn placeOf inRow inSegment translateOf entryBytes snapshotHeader snapshotWith controlWith plain onePage trials splitGives passes allPass
+unfolding wordAt wordBytes zeros seek need _then_ splitOf headerOf countsValid offsetsValid totalValid snapshotValid entryOf bodyValid validWithin entryValid editionKnown controlValid invocationOf invocationBytes currentValid buffersValid controlReady frameField frameEntryBytes claims isFree foundIn frameOf freeFrame requestValid aligned within rules rowOf segmentOf permitted firstChecks rowChecks concernedValid owned running endOf startOf sourceOf rowCheck dataPlace regionPlace placeIn placeOf inRow inSegment translateOf entryBytes snapshotHeader snapshotWith controlWith plain plainOlder onePage trials splitGives passes allPass
 table = tt
 
 -- each row of a table that passes

@@ -3,7 +3,7 @@ use Prim.Native.Nat.{ℕ, _+_, _-_, _*_}
 use mathlib.Core.List.{List, [], _++_}
 use Rattle.layout.specs.Snapshot.{headerSize, entrySize, contextSize, metadataSize}
 use Rattle.layout.specs.Page.{pageLimit, poolLength}
-use Rattle.layout.specs.Control.{shadowAt, shadowSize, registersSize, liveLimit, tableAt, usageStack, usageHeap}
+use Rattle.layout.specs.Control.{older, newer, shadowAt, shadowSize, registersSize, liveLimit, tableAt, usageStack, usageHeap}
 use Rattle.words.specs.Words.{wordBytes, zeros}
 use Rattle.control.specs.Control.{invocationBytes}
 use Rattle.frames.specs.Table.{frameEntryBytes}
@@ -38,16 +38,21 @@ snapshotWith b n =
     snapshotHeader b n
     ++ (entryBytes 1 0 0 (dataStart b) ++ (zeros (entrySize * 4) ++ (entryBytes 3 0 n (dataStart b) ++ zeros (contextSize * b + 72 + n))))
 
--- one invocation of account 0 with these sizes, over a frame table of f entries
-unfoldable pub controlWith : ℕ → ℕ → ℕ → List ℕ → List ℕ
-controlWith f stack heap table =
-    wordBytes 4 f ++ (wordBytes 4 1 ++ (wordBytes 4 shadowAt ++ (wordBytes 4 tableAt
+-- one invocation of account 0 in an edition with these sizes, over a frame table of f entries
+unfoldable pub controlWith : ℕ → ℕ → ℕ → ℕ → List ℕ → List ℕ
+controlWith edition f stack heap table =
+    wordBytes 4 f ++ (wordBytes 4 1 ++ (wordBytes 4 shadowAt ++ (wordBytes 4 tableAt ++ (wordBytes 4 edition
+    ++ (zeros 4
     ++ (zeros shadowSize
-    ++ (invocationBytes (record { program = record { 0 = 0 }; stack = stack; heap = heap }) (zeros registersSize) ++ (zeros (shadowSize * (liveLimit - 1)) ++ table))))))
+    ++ (invocationBytes (record { program = record { 0 = 0 }; stack = stack; heap = heap }) (zeros registersSize) ++ (zeros (shadowSize * (liveLimit - 1)) ++ table))))))))
 
 -- "Account data of 6,000 bytes", one block context, no frame
 unfoldable pub plain : Setting
-plain = record { snapshot = snapshotWith 1 6000; control = controlWith 0 0 0 []; pool = [] }
+plain = record { snapshot = snapshotWith 1 6000; control = controlWith newer 0 0 0 []; pool = [] }
+
+-- the same in the older edition
+unfoldable pub plainOlder : Setting
+plainOlder = record { snapshot = snapshotWith 1 6000; control = controlWith older 0 0 0 []; pool = [] }
 
 -- one stack page in frame 0 and one heap page in frame 1
 unfoldable pub onePage : Setting
@@ -55,7 +60,7 @@ onePage =
     record {
       snapshot = snapshotWith 1 0;
       control =
-          controlWith 2 1 1
+          controlWith newer 2 1 1
           (frameEntryBytes (record { usage = usageStack; tag = 0; account = record { 0 = 0 }; page = record { 0 = pageLimit - 1 }; zero = 0 })
           ++ frameEntryBytes (record { usage = usageHeap; tag = 0; account = record { 0 = 0 }; page = record { 0 = 0 }; zero = 0 }));
       pool = zeros (poolLength 2);

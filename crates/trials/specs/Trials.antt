@@ -1,5 +1,5 @@
 -- Document 01, "Trials at the edges": "Marked P: proved, together as a single table." By document 02, "One", those with an absent byte
--- give 13 with its distance. Assumes nothing.
+-- give 13 with its distance. With them fetches of both editions of document 02, "Six". Assumes nothing.
 use Prim.Native.Nat.{ℕ, _+_}
 use mathlib.Core.Bool.{Bool, true}
 use mathlib.Core.List.{List, [], _∷_}
@@ -7,10 +7,10 @@ use lib.Dec.{eqb}
 use Rattle.choice.specs.Choice.{both}
 use Rattle.refusal.specs.Numbers.{done}
 use Rattle.address.specs.Address.{splitOf}
-use Rattle.segments.specs.Kinds.{kindLoad, kindLoadSpan}
+use Rattle.segments.specs.Kinds.{kindLoad, kindFetch, kindLoadSpan}
 use Rattle.translate.specs.Place.{numberOfAnswer, distanceOfAnswer}
 use Rattle.translate.specs.Translate.{translateOf}
-use Rattle.trials.specs.Settings.{Setting, plain, onePage}
+use Rattle.trials.specs.Settings.{Setting, plain, plainOlder, onePage}
 
 -- a trial: an address with its fields, or one that is refused with its number; or an access in a setting, with the number and the
 -- distance that it gives
@@ -19,7 +19,8 @@ pub data Trial : Type 0 where
   refuses : (address number : ℕ) → Trial
   gives : Setting → (kind address size number distance : ℕ) → Trial
 
--- the trials marked P, in the paper's order; then spans over an end, of which some bytes are present
+-- the trials marked P, in the paper's order; then spans over an end, of which some bytes are present; then both editions, whose program, account 0,
+-- has no byte: where a fetch is allowed it finds none
 unfoldable pub trials : List Trial
 trials =
     splits 0x030005000800 3 5 0x800
@@ -39,6 +40,12 @@ trials =
     ∷ gives plain kindLoadSpan (0x030005000000 + 5996) 8 13 4
     ∷ gives plain kindLoadSpan 0x000004000071 16 13 7
     ∷ gives plain kindLoadSpan (0x000002000000 + 4480) 16 13 8
+    ∷ gives plain kindFetch 0x000003000000 4 13 0
+    ∷ gives plain kindFetch 0x030000000000 4 7 0
+    ∷ gives plainOlder kindFetch 0x000003000000 4 4 0
+    ∷ gives plainOlder kindLoad 0x000003000000 4 4 0
+    ∷ gives plainOlder kindFetch 0x030000000000 4 13 0
+    ∷ gives plainOlder kindFetch 0x030005000000 4 7 0
     ∷ []
 
 -- splitting the address gives these fields and this number

@@ -5,7 +5,7 @@
 typedef volatile struct slot slot_record;
 typedef volatile const struct request request_record;
 
-/* The most that each of the eight bays bears, in kg; a constant, so it is loaded from the program segment. */
+/* The most that each of the eight bays bears, in kg; a constant, so it is loaded from the program. */
 static const uint32_t bay_limit[8] = {40000, 40000, 40000, 26000, 26000, 40000, 18000, 18000};
 
 static slot_record *slot_of(const struct request *request) {

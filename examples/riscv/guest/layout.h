@@ -11,15 +11,17 @@
 #define PAGE_BYTES 4096
 
 #define TRANSACTION ADDRESS(0, 1, 0)
-#define PROGRAM ADDRESS(0, 3, 0)
 #define ACCOUNT_DATA(account) ADDRESS(3, account, 0)
+#define PROGRAM ADDRESS(0, 3, 0) /* where a guest runs in the newer edition */
+#define OLDER_PROGRAM ACCOUNT_DATA(PROGRAM_ACCOUNT) /* and in the older */
 #define STACK_END (ADDRESS(5, 0, 0) + SEGMENT_BYTES)
 #define HEAP ADDRESS(7, 0, 0)
 #define LIST (HEAP + PAGE_BYTES * HEAP_PAGES) /* the page that the weighing guest's helper grows */
 
 enum { HEAP_PAGES = 1 }; /* that a guest begins with */
 
-enum { PROGRAM_ACCOUNT = 0, SLOT_ACCOUNT = 1, FOREIGN_ACCOUNT = 2, FOREIGN_PROGRAM = 3, ACCOUNTS = 4 };
+/* The guest is account 5, as the program in source document 001's example; accounts 0 and 4 do not exist. */
+enum { SLOT_ACCOUNT = 1, FOREIGN_ACCOUNT = 2, FOREIGN_PROGRAM = 3, PROGRAM_ACCOUNT = 5, ACCOUNTS = 6 };
 
 /* A booking that the transaction asks for. The transaction is a u64 count and then that many of these. */
 struct request {

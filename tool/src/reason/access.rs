@@ -2,6 +2,7 @@
 
 use super::segment::{extent, name};
 use super::{buffers, entry, no_account, no_frame, shallower_page};
+use crate::edition;
 use crate::text::count;
 use crate::world::World;
 use hekthumar::layout::PAGE;
@@ -58,6 +59,7 @@ fn no_segment(world: World, address: Address) -> Option<String> {
     let Fields { segment, index, .. } = address.fields().ok()?;
     match address.segment() {
         Ok(Segment::Data(account) | Segment::Metadata(account)) => no_account(world, account),
+        Ok(Segment::Program) => edition::no_program(world),
         _ => Some(format!("no segment has type {segment} and index {index}")),
     }
 }
@@ -84,7 +86,7 @@ fn forbidden(world: World, access: Access) -> Option<String> {
     let segment = access.address.segment().ok()?;
     let page = offset(access)? / PAGE;
     match segment {
-        _ if access.kind == Kind::Fetch => Some(format!("only the program is fetched from; this is {}", name(segment))),
+        _ if access.kind == Kind::Fetch => Some(format!("{}; this is {}", edition::fetched(world)?, name(segment))),
         Segment::Data(account) => not_writable(world, account),
         Segment::Stack => shallower_page(world, Region::Stack, page),
         Segment::Heap => shallower_page(world, Region::Heap, page),

@@ -1,7 +1,7 @@
 //! Why begin, a call, a return or a change of size was refused.
 
 use super::{buffers, entry, first, no_account, no_frame, shallower_page};
-use crate::rules::{control, snapshot};
+use crate::rules::{control, former, snapshot};
 use crate::text::count;
 use crate::verdict::snapshot_valid;
 use crate::world::{region_name, World};
@@ -9,7 +9,8 @@ use hekthumar::layout::{FRAME_ENTRY, FRAME_TABLE, MAX_FRAMES, MAX_INVOCATIONS, M
 use hekthumar::{control_len, pool_len, Refusal, Region};
 use std::ops::Range;
 
-/// Why begin was refused. It asks nothing of what control block and pool hold, but for their lengths.
+/// Why begin was refused. It asks nothing of what control block and pool hold, but for their lengths. The edition of a script is always one
+/// of the two, so that 2 is for the pages.
 pub fn begin(world: World, program: u16, pages: usize, refusal: Refusal) -> Option<String> {
     match refusal {
         Refusal::Invalid if !snapshot_valid(world.snapshot) => first("the snapshot", snapshot::broken(world.snapshot)),
@@ -54,8 +55,14 @@ fn no_program(world: World, program: u16, refusal: Refusal) -> Option<String> {
     (refusal == Refusal::NoSegment).then(|| no_account(world, program).unwrap_or_else(|| format!("account {program} does not exist")))
 }
 
-/// Which length of control block and pool is wrong.
+/// Which length of control block and pool is wrong; of a block made before editions, that it was.
 fn lengths(world: World) -> Option<String> {
+    let wrong = wrong_length(world)?;
+    let former = former::broken(world.control).into_iter().collect();
+    first("the control block", former).or(Some(wrong))
+}
+
+fn wrong_length(world: World) -> Option<String> {
     match (0..=MAX_FRAMES).find(|&frames| control_len(frames) == world.control.len()) {
         None if world.control.len() < FRAME_TABLE => first("the control block", control::broken(world.control)),
         None => Some(format!(

@@ -4,7 +4,13 @@ use crate::text::count;
 use crate::world::World;
 use hekthumar::inspect::SnapshotHeader;
 use hekthumar::layout::{CONTEXT, METADATA, PAGE, SEGMENT, SHADOW_STACK};
-use hekthumar::{Region, Segment};
+use hekthumar::{Address, Edition, Region, Segment};
+
+/// The segment that an address lies in, if it lies in one.
+pub fn of(world: World, address: Address) -> Option<Segment> {
+    let there = |segment: &Segment| *segment != Segment::Program || world.edition() != Some(Edition::Older);
+    address.segment().ok().filter(there)
+}
 
 /// What a segment is called.
 pub fn name(segment: Segment) -> String {

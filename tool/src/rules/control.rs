@@ -1,16 +1,19 @@
 //! The rules of a control block, with its snapshot and its pool.
 
-use super::{Broken, Findings};
+use super::{former, Broken, Findings};
 use crate::text::count;
 use crate::verdict::account_valid;
 use crate::world::{World, COPY};
 use hekthumar::inspect::{frame_entries, ControlHeader, FrameEntry, Invocation};
 use hekthumar::layout::*;
-use hekthumar::{control_len, pool_len};
+use hekthumar::{control_len, pool_len, Edition};
 use std::collections::BTreeMap;
 
 /// The rules that a control block breaks by itself, whatever the snapshot and the pool.
 pub fn broken(control: &[u8]) -> Vec<Broken> {
+    if let Some(former) = former::broken(control) {
+        return vec![former];
+    }
     let mut findings = Findings::default();
     let header = ControlHeader::read(control).filter(|_| control.len() >= FRAME_TABLE);
     let Some(header) = header else {
@@ -18,11 +21,7 @@ pub fn broken(control: &[u8]) -> Vec<Broken> {
         findings.broken(control.len(), rule);
         return findings.0;
     };
-    findings.at_most(0, "the frame count", MAX_FRAMES, header.frames);
-    findings.at_least(4, "the number of live invocations", 1, header.invocations);
-    findings.at_most(4, "the number of live invocations", MAX_INVOCATIONS, header.invocations);
-    findings.equal(8, "the offset of the shadow records", CONTROL_HEADER as u64, header.shadow_at);
-    findings.equal(12, "the offset of the frame table", FRAME_TABLE as u64, header.table_at);
+    words(&mut findings, header);
     if header.frames as usize <= MAX_FRAMES {
         let length = control_len(header.frames as usize) as u64;
         let rule = format!("the length, {FRAME_TABLE} + {FRAME_ENTRY} * frames,");
@@ -32,6 +31,19 @@ pub fn broken(control: &[u8]) -> Vec<Broken> {
         current(&mut findings, control, header.invocations as usize);
     }
     findings.0
+}
+
+/// The rules of each word of the header by itself.
+fn words(findings: &mut Findings, header: ControlHeader) {
+    findings.at_most(0, "the frame count", MAX_FRAMES, header.frames);
+    findings.at_least(4, "the number of live invocations", 1, header.invocations);
+    findings.at_most(4, "the number of live invocations", MAX_INVOCATIONS, header.invocations);
+    findings.equal(8, "the offset of the shadow records", CONTROL_HEADER as u64, header.shadow_at);
+    findings.equal(12, "the offset of the frame table", FRAME_TABLE as u64, header.table_at);
+    if Edition::from_number(header.edition).is_none() {
+        findings.broken(16, format!("the edition has to be 1 (older) or 2 (newer); found {}", header.edition));
+    }
+    findings.equal(20, "the header's last word", 0, header.zero);
 }
 
 /// The rules of the current invocation's record.

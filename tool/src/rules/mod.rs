@@ -1,6 +1,7 @@
 //! Which rules a file breaks. Whether it breaks any is for the library to say ([`crate::verdict`]); these name them.
 
 pub mod control;
+pub mod former;
 pub mod list;
 pub mod pool;
 pub mod snapshot;

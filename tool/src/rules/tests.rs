@@ -46,7 +46,7 @@ fn buffers() -> (Vec<u8>, Vec<u8>, Vec<u8>) {
     let snapshot = builder.build().unwrap();
     let (mut control, mut pool) = (vec![0; control_len(6)], vec![0; pool_len(6)]);
     let mut memory = Memory::new(&snapshot, &mut control, &mut pool);
-    memory.begin(program).unwrap();
+    memory.begin(program, Edition::Newer).unwrap();
     memory.store_u8(Address::data(slots, 0).unwrap(), 1).unwrap();
     memory.store_u8(Address::data(slots, 4_096).unwrap(), 1).unwrap();
     memory.call(program, &[0; 256]).unwrap();
@@ -88,7 +88,7 @@ fn of_control_blocks() {
     for round in 0..20_000 {
         // the header, or the current invocation's record
         let start = if round % 2 == 0 { 0 } else { current };
-        let damaged = [&control[..start], &numbers.damaged(&control[start..], 16)].concat();
+        let damaged = [&control[..start], &numbers.damaged(&control[start..], CONTROL_HEADER)].concat();
         let world = World { snapshot: &snapshot, control: &damaged, pool: &pool };
         let broken = control::all_broken(world);
         assert_eq!(broken.is_empty(), buffers_valid(world), "{broken:?}");

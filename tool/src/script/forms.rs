@@ -17,7 +17,7 @@ pub struct Form {
 pub const FORMS: [Form; 22] = [
     form("frames", "N", "", "lends a pool of N frames, 0 to 1024, before begin; 16 otherwise"),
     form("resume", "CONTROL POOL", "", "lends a saved control block and a saved pool"),
-    form("begin", "PROGRAM [PAGES]", "NUMBER", "begins a program: an account's number; PAGES of stack, 0 or 1; 1 otherwise"),
+    form("begin", "PROGRAM [PAGES] [EDITION]", "NUMBER", "begins a program: an account's number; PAGES of stack, 0 or 1; 1 otherwise"),
     form("load", "ADDRESS SIZE", "NUMBER [VALUE] | 13 [DISTANCE]", "loads 1, 2, 4 or 8 bytes as a number"),
     form("fetch", "ADDRESS SIZE", "NUMBER [VALUE] | 13 [DISTANCE]", "the same of the program"),
     form("store", "ADDRESS SIZE VALUE", "NUMBER | 13 [DISTANCE]", "stores the low bytes of a number"),

@@ -8,7 +8,7 @@ mod words;
 pub use records::{Content, Layout};
 
 use crate::answer::Fact;
-use hekthumar::{Address, Kind, Region};
+use hekthumar::{Address, Edition, Kind, Region};
 use std::fmt;
 use std::path::PathBuf;
 
@@ -69,7 +69,7 @@ pub enum Buffer {
 pub enum Statement {
     Frames(usize),
     Resume { control: PathBuf, pool: PathBuf },
-    Begin { program: u16, pages: Option<usize> },
+    Begin { program: u16, pages: Option<usize>, edition: Edition },
     Load { address: Address, size: usize },
     Fetch { address: Address, size: usize },
     Store { address: Address, size: usize, value: u64 },

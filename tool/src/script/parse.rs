@@ -4,9 +4,10 @@ use super::forms::Form;
 use super::words::{Mistake, Word, Words};
 use super::{Buffer, Complaint, Expected, Layout, Line, Statement};
 use crate::answer::Fact;
+use crate::edition;
 use crate::text::printable;
 use hekthumar::layout::MAX_FRAMES;
-use hekthumar::{Address, Kind, Refusal, Region};
+use hekthumar::{Address, Edition, Kind, Refusal, Region};
 
 const KINDS: [&str; 5] = ["load", "store", "fetch", "load-span", "store-span"];
 const BUFFERS: [&str; 3] = ["snapshot", "control", "pool"];
@@ -72,7 +73,7 @@ fn statement(name: Word, words: &mut Words) -> Result<Statement, Mistake> {
     Ok(match name.text {
         b"frames" => Statement::Frames(words.at_most("N", MAX_FRAMES as u64)? as usize),
         b"resume" => Statement::Resume { control: words.path("CONTROL")?, pool: words.path("POOL")? },
-        b"begin" => Statement::Begin { program: words.short("PROGRAM")?, pages: optional(words, "PAGES")?.map(|pages| pages as usize) },
+        b"begin" => begin(words)?,
         b"load" => Statement::Load { address: address(words)?, size: size(words, "SIZE")? },
         b"fetch" => Statement::Fetch { address: address(words)?, size: size(words, "SIZE")? },
         b"store" => Statement::Store { address: address(words)?, size: size(words, "SIZE")?, value: words.number("VALUE")? },
@@ -97,6 +98,15 @@ fn statement(name: Word, words: &mut Words) -> Result<Statement, Mistake> {
         b"save-list" => Statement::SaveList(words.path("FILE")?),
         _ => return Err(Mistake::new(name.column, format!("{} cannot be carried out", name.quoted()))),
     })
+}
+
+/// A begin, whose pages and edition may be left out. What starts with a letter is no number, and so is taken for the edition.
+fn begin(words: &mut Words) -> Result<Statement, Mistake> {
+    let program = words.short("PROGRAM")?;
+    let lettered = words.peek().is_some_and(|word| word.text.first().is_some_and(u8::is_ascii_alphabetic));
+    let pages = if lettered { None } else { optional(words, "PAGES")?.map(|pages| pages as usize) };
+    let edition = words.peek().map(|_| words.choice("EDITION", &edition::WORDS)).transpose()?;
+    Ok(Statement::Begin { program, pages, edition: edition.map_or(Edition::Newer, |edition| edition::ALL[edition]) })
 }
 
 fn kind(words: &mut Words) -> Result<Kind, Mistake> {

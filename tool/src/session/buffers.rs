@@ -4,6 +4,7 @@ use super::Session;
 use crate::answer::{Answer, Fact};
 use crate::failure::Failure;
 use crate::files::{self, Limit};
+use crate::rules::former::made_before_editions;
 use crate::script::Buffer;
 use crate::text::{count, name};
 use crate::{pool_map, verdict};
@@ -15,6 +16,9 @@ use std::path::Path;
 pub const CONTROL: Limit = Limit { what: "a control block", most: control_len(MAX_FRAMES) };
 pub const POOL: Limit = Limit { what: "a pool", most: pool_len(MAX_FRAMES) };
 
+/// What to do about a control block made before editions.
+const FORMER: &str = "this control block was made before editions and cannot be carried over: leave this resume out, and begin anew";
+
 impl Session {
     /// Other buffers of zeros.
     pub fn lend(&mut self, frames: usize) -> Answer {
@@ -25,7 +29,9 @@ impl Session {
     /// The buffers of files.
     pub(super) fn resume(&mut self, control: &Path, pool: &Path) -> Result<Answer, Failure> {
         (self.control, self.pool) = (files::read(control, CONTROL)?, files::read(pool, POOL)?);
-        Ok(Answer::note(format!("  a control block of {} bytes and a pool of {}", self.control.len(), self.pool.len())))
+        let warning = made_before_editions(&self.control).then_some(FORMER);
+        let lent = Answer::note(format!("  a control block of {} bytes and a pool of {}", self.control.len(), self.pool.len()));
+        Ok(Answer { warning, ..lent })
     }
 
     pub fn map(&self) -> Answer {

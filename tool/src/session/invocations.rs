@@ -3,14 +3,14 @@
 use super::Session;
 use crate::answer::{Answer, Fact};
 use crate::reason::invocation;
-use hekthumar::Region;
+use hekthumar::{Edition, Region};
 
 impl Session {
     /// The begin with a stack page, or the one that takes the number of them.
-    pub fn begin(&mut self, program: u16, pages: Option<usize>) -> Answer {
+    pub fn begin(&mut self, program: u16, pages: Option<usize>, edition: Edition) -> Answer {
         let answer = match pages {
-            None => self.memory().begin(program),
-            Some(pages) => self.memory().begin_with_pages(program, pages),
+            None => self.memory().begin(program, edition),
+            Some(pages) => self.memory().begin_with_pages(program, edition, pages),
         };
         self.plain(answer, |world, refusal| invocation::begin(world, program, pages.unwrap_or(1), refusal))
     }

@@ -43,7 +43,7 @@ impl Session {
         Ok(match *statement {
             Statement::Frames(frames) => self.lend(frames),
             Statement::Resume { ref control, ref pool } => self.resume(control, pool)?,
-            Statement::Begin { program, pages } => self.begin(program, pages),
+            Statement::Begin { program, pages, edition } => self.begin(program, pages, edition),
             Statement::Load { address, size } => self.load(address, size),
             Statement::Fetch { address, size } => self.fetch(address, size),
             Statement::Store { address, size, value } => self.store(address, size, value),

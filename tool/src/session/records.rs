@@ -5,6 +5,7 @@ use crate::answer::{Answer, Fact};
 use crate::reason::access::Access;
 use crate::reason::{record as reason, segment};
 use crate::script::{Content, Layout};
+use crate::world::World;
 use hekthumar::{sys, Address, Buffer, CallRecord, Event, Kind, Location, Refusal, Returned};
 
 impl Session {
@@ -12,7 +13,8 @@ impl Session {
         match self.read_content(record, address) {
             Ok(content) => {
                 let fields = fields(content);
-                Answer::done("", fields.iter().flat_map(Field::facts)).and(fields.iter().map(Field::line))
+                let world = self.world();
+                Answer::done("", fields.iter().flat_map(Field::facts)).and(fields.iter().map(|field| field.line(world)))
             }
             Err(Refusal::BadRecord) => {
                 Answer::refused(Refusal::BadRecord, self.discriminant(address).map(|found| reason::stands(address, found)))
@@ -105,9 +107,11 @@ impl Field {
         }
     }
 
-    fn line(&self) -> String {
+    fn line(&self, world: World) -> String {
         match *self {
-            Field::Buffer(name, Buffer { pointer, length }) => format!("    {name}: pointer {pointer}{}, length {length}", named(pointer)),
+            Field::Buffer(name, Buffer { pointer, length }) => {
+                format!("    {name}: pointer {pointer}{}, length {length}", named(world, pointer))
+            }
             Field::Number(name, number) => format!("    {name}: {number}"),
             Field::Discriminant(discriminant) => {
                 format!("    discriminant: {discriminant} ({})", if discriminant == 0 { "Ok" } else { "Err" })
@@ -117,8 +121,8 @@ impl Field {
 }
 
 /// The segment of an address, if it lies in one.
-fn named(pointer: Address) -> String {
-    pointer.segment().map_or(String::new(), |segment| format!(" ({})", segment::name(segment)))
+fn named(world: World, pointer: Address) -> String {
+    segment::of(world, pointer).map_or(String::new(), |segment| format!(" ({})", segment::name(segment)))
 }
 
 #[cfg(test)]

@@ -1,10 +1,12 @@
 //! What a control block holds, judged with its snapshot and its pool where they are given.
 
 use super::{complain, verdict, Beside, Shown};
+use crate::edition;
 use crate::failure::Failure;
 use crate::output::Output;
 use crate::pool_map;
 use crate::rules::control::{all_broken, copies_broken};
+use crate::rules::former::made_before_editions;
 use crate::rules::Broken;
 use crate::session::register_lines;
 use crate::verdict::{buffers_valid, listable, pool_for, snapshot_valid, unreadable, widest_snapshot};
@@ -13,7 +15,7 @@ use hekthumar::inspect::{ControlHeader, FrameEntry, Invocation};
 use hekthumar::layout::{FRAME_TABLE, MAX_INVOCATIONS, MAX_REGION};
 use hekthumar::Region;
 
-/// Shows the counts, the live invocations and the map of the pool.
+/// Shows the counts, the edition, the live invocations and the map of the pool.
 pub fn show(file: &Shown, beside: &Beside, out: &mut Output) -> Result<(), Failure> {
     // Without a snapshot the control block is judged with one that has every account and every page that there may be.
     let snapshot = beside.snapshot.filter(|snapshot| snapshot_valid(snapshot));
@@ -22,9 +24,8 @@ pub fn show(file: &Shown, beside: &Beside, out: &mut Output) -> Result<(), Failu
     let world = World { snapshot: snapshot.unwrap_or(&stand_in.0), control: &file.bytes, pool: beside.pool.unwrap_or(&stand_in.1) };
     let valid = buffers_valid(world);
     verdict(file, valid, judged_by(snapshot.is_some(), beside.pool.is_some()), &all_broken(world), out)?;
-    if file.bytes.len() >= FRAME_TABLE {
-        show_invocations(world, out)?;
-        out.lines(pool_map::lines(&file.bytes))?;
+    if let Some(header) = ControlHeader::read(&file.bytes) {
+        show_parts(world, header, out)?;
     }
     if valid {
         show_refusals(file, world, out)?;
@@ -42,10 +43,23 @@ fn judged_by(snapshot: bool, pool: bool) -> &'static str {
     }
 }
 
-fn show_invocations(world: World, out: &mut Output) -> Result<(), Failure> {
-    let (room, frames) = (pool_map::marks(world.control).len(), ControlHeader::read(world.control).map_or(0, |header| header.frames));
+/// Shows the header, and what follows it as far as it is known where that lies.
+fn show_parts(world: World, header: ControlHeader, out: &mut Output) -> Result<(), Failure> {
+    let ControlHeader { frames, invocations, edition, .. } = header;
+    if made_before_editions(world.control) {
+        return out.line(format_args!("  frames {frames}, live invocations {invocations}, made before editions"));
+    }
+    if world.control.len() < FRAME_TABLE {
+        return Ok(());
+    }
+    let room = pool_map::marks(world.control).len();
     let room = if room == frames as usize { String::new() } else { format!(" (room for {room})") };
-    out.line(format_args!("  frames {frames}{room}, live invocations {}", world.invocations()))?;
+    out.line(format_args!("  frames {frames}{room}, live invocations {invocations}, edition {}", edition::described(edition)))?;
+    show_invocations(world, out)?;
+    out.lines(pool_map::lines(world.control))
+}
+
+fn show_invocations(world: World, out: &mut Output) -> Result<(), Failure> {
     for number in 1..=world.invocations().min(MAX_INVOCATIONS) {
         let Some(Invocation { program, stack, heap, registers }) = Invocation::read(world.control, number) else {
             break;

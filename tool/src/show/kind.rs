@@ -1,5 +1,6 @@
 //! What a file is.
 
+use crate::rules::former::made_before_editions;
 use hekthumar::inspect::{ControlHeader, ListHeader, SnapshotHeader};
 use hekthumar::layout::*;
 use hekthumar::{change_list_len, control_len};
@@ -83,6 +84,9 @@ fn snapshot_marks(bytes: &[u8]) -> usize {
 }
 
 fn control_marks(bytes: &[u8]) -> usize {
+    if made_before_editions(bytes) {
+        return 3;
+    }
     let shadow = word(bytes, 2) == Some(CONTROL_HEADER as u32);
     let table = word(bytes, 3) == Some(FRAME_TABLE as u32);
     let length = ControlHeader::read(bytes).is_some_and(|header| control_len(header.frames as usize) == bytes.len());

@@ -1,6 +1,6 @@
 //! Control blocks and pools.
 
-use super::bytes::words;
+use super::bytes::{with_word, words};
 use super::layout::*;
 use super::snapshot::slots;
 
@@ -21,12 +21,24 @@ pub fn entry(usage: u8, tag: u8, account: u16, page: u16) -> [u8; FRAME_ENTRY] {
 /// The entry of a frame that nobody uses.
 pub const UNUSED: [u8; FRAME_ENTRY] = [FREE, 0, 0, 0, 0, 0, 0, 0];
 
-/// A control block with these live invocations and these frames.
+/// A control block of the newer edition with these live invocations and these frames.
 pub fn control(invocations: &[Vec<u8>], frames: &[[u8; FRAME_ENTRY]]) -> Vec<u8> {
-    let header = words([frames.len(), invocations.len(), CONTROL_HEADER, FRAME_TABLE]);
+    let header = words([frames.len(), invocations.len(), CONTROL_HEADER, FRAME_TABLE, NEWER, 0]);
     let mut shadow = [vec![0; RECORD], invocations.concat()].concat();
     shadow.resize(RECORD * RECORDS, 0);
     [header, shadow, frames.as_flattened().to_vec()].concat()
+}
+
+/// The same control block in the older edition.
+pub fn older(control: &[u8]) -> Vec<u8> {
+    with_word(control, EDITION, OLDER)
+}
+
+/// The same control block as it was before editions.
+pub fn former(control: &[u8]) -> Vec<u8> {
+    let counts = &control[..RECORDS_AT];
+    let offsets = words([FORMER_HEADER, FRAME_TABLE - (CONTROL_HEADER - FORMER_HEADER)]);
+    [counts, &offsets, &control[CONTROL_HEADER..]].concat()
 }
 
 /// One invocation of program 0 with these pages of stack and heap.

@@ -1,4 +1,5 @@
-//! The numbers of document 01's layouts. They are written apart from the library's, so that the two can disagree.
+//! The numbers of document 01's layouts, with the longer header of document 02's request Six. They are written apart from the library's, so
+//! that the two can disagree.
 
 /// Bytes of a page, and of a frame of the pool.
 pub const PAGE: usize = 4_096;
@@ -42,7 +43,7 @@ pub const EXISTS: u16 = 1;
 pub const WRITABLE: u16 = 2;
 
 /// A control block: its header, the records of the shadow stack, the entry of a frame.
-pub const CONTROL_HEADER: usize = 16;
+pub const CONTROL_HEADER: usize = 24;
 pub const RECORD: usize = 264;
 pub const RECORDS: usize = MAX_INVOCATIONS + 1;
 pub const REGISTERS: usize = 32;
@@ -54,6 +55,15 @@ pub const FRAMES: usize = 0;
 pub const INVOCATIONS: usize = 4;
 pub const RECORDS_AT: usize = 8;
 pub const TABLE_AT: usize = 12;
+pub const EDITION: usize = 16;
+pub const LAST_WORD: usize = 20;
+
+/// The editions.
+pub const OLDER: usize = 1;
+pub const NEWER: usize = 2;
+
+/// The header of a control block made before editions: it ends where the edition stands.
+pub const FORMER_HEADER: usize = EDITION;
 
 /// Where the fields of a record stand.
 pub const PROGRAM: usize = 0;

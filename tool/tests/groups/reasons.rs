@@ -4,12 +4,13 @@ use super::case::Case;
 use crate::data::snapshot::{empty, mill, sound_mill};
 
 /// Over a snapshot that is valid whole.
-const SOUND: [(&str, &str); 5] = [
+const SOUND: [(&str, &str); 6] = [
     ("reasons-requests", include_str!("../inputs/reasons-requests.txt")),
     ("reasons-absent", include_str!("../inputs/reasons-absent.txt")),
     ("reasons-forbidden", include_str!("../inputs/reasons-forbidden.txt")),
     ("reasons-frames", include_str!("../inputs/reasons-frames.txt")),
     ("reasons-records", include_str!("../inputs/reasons-records.txt")),
+    ("reasons-editions", include_str!("../inputs/reasons-editions.txt")),
 ];
 
 /// Over a snapshot with an account that is not valid.

@@ -3,7 +3,7 @@
 use super::case::Case;
 use crate::common::folder::Content;
 use crate::data::bytes::patched;
-use crate::data::control::{alone, booked, booked_pool, control, entry, record, UNUSED};
+use crate::data::control::{alone, booked, booked_pool, control, entry, former, record, UNUSED};
 use crate::data::damaged;
 use crate::data::layout::*;
 use crate::data::list::{booked_slots, booking, list};
@@ -68,12 +68,21 @@ fn kept() -> Vec<Case> {
         lengths("resume-short-control", booked()[..FRAME_TABLE - 1].to_vec(), booked_pool()),
         lengths("resume-uneven-control", booked()[..uneven].to_vec(), booked_pool()),
         lengths("resume-uneven-zeros", vec![0; uneven], booked_pool()),
+        lengths("resume-former", former(&booked()), booked_pool()),
+        lengths("resume-former-no-frames", former(&alone(0, 0, &[])), Vec::new()),
+        begun_over_former(),
         lengths("resume-short-pool", booked(), booked_pool()[1..].to_vec()),
         lengths("resume-empty-files", Vec::new(), Vec::new()),
         Case::script("save-before-begin", sound_mill(), before_begin),
         Case::script("save-after-poke", sound_mill(), "begin 0\npoke snapshot 12 21\nsave-control kept-control\n"),
         Case::script("save-refused-list", sound_mill(), "save-list kept-list\n").leaves_no("kept-list"),
     ]
+}
+
+/// Begin asks for lengths alone: a block made before editions for two frames is as long as one for one.
+fn begun_over_former() -> Case {
+    let script = "resume control pool\nlist => 1\nbegin 4 => 1\nbegin 0 => 0\nlist => 0 0\nmap => S\n";
+    Case::script("resume-former-begun", mill(), script).with("control", former(&alone(0, 0, &[UNUSED; 2]))).with("pool", [7; PAGE])
 }
 
 fn saved() -> Case {

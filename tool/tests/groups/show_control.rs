@@ -2,7 +2,7 @@
 
 use super::case::Case;
 use crate::common::folder::Content;
-use crate::data::control::{self, booked, booked_pool, inspected, mixed_control};
+use crate::data::control::{self, booked, booked_pool, former, inspected, mixed_control, older};
 use crate::data::damaged::{self, named};
 use crate::data::layout::{control_length, MAX_FRAMES, PAGE};
 use crate::data::list::booking;
@@ -19,6 +19,9 @@ fn alone() -> Vec<Case> {
     vec![
         show("show", mixed_control()),
         show("show-saved", booked()),
+        show("show-older", older(&mixed_control())),
+        show("show-former", former(&mixed_control())),
+        show("show-former-no-frames", former(&control::alone(0, 0, &[]))),
         show("show-no-frames", control::alone(0, 0, &[])),
         show("show-damaged", named(damaged::controls(), "table")),
         // no snapshot has an account 64, none of its accounts a page 4096
@@ -38,6 +41,8 @@ fn together() -> Vec<Case> {
         |name, control, snapshot: Vec<u8>| Case::new(name, "show control snapshot").with("control", control).with("snapshot", snapshot);
     vec![
         show("show-all", "show snapshot control pool list"),
+        show("show-all-older", "show snapshot control=older pool").with("older", older(&booked())),
+        show("show-all-former", "show snapshot former pool").with("former", former(&booked())),
         show("show-all-backwards", "show list pool control snapshot"),
         show("show-all-prefixes", "show pool=pool list=list snapshot=snapshot control=control"),
         show("show-with-pool", "show control pool"),

@@ -33,7 +33,7 @@ fn kinds() -> Vec<Case> {
         show("show-unknown", b"A letter to the miller.\n"),
         // each as much a change list, by the second word, as a snapshot by the fourth or a control block by the third
         show("show-list-or-snapshot", &words([9, 16, 0, 32])),
-        show("show-list-or-control", &words([9, 16, 16, 7])),
+        show("show-list-or-control", &words([9, 16, 24, 7])),
         // two words of a change list and one of a snapshot; two words of a change list and all of a snapshot
         show("show-rather-list", &words([2, 16, 32, 32])),
         show("show-rather-snapshot", &snapshot(&[Account::ABSENT], 16, &[0; 24], &[])),

@@ -38,12 +38,12 @@ pub fn write_event(s: &[u8], c: &mut [u8], p: &mut [u8], address: u64, event: Ev
     unsafe { sys::hekthumar_write_event(s.as_ptr(), s.len(), c.as_mut_ptr(), c.len(), p.as_mut_ptr(), p.len(), address, event) }
 }
 
-pub fn begin(s: &[u8], c: &mut [u8], p: &mut [u8], program: u16) -> u8 {
-    unsafe { sys::hekthumar_begin(s.as_ptr(), s.len(), c.as_mut_ptr(), c.len(), p.as_mut_ptr(), p.len(), program) }
+pub fn begin(s: &[u8], c: &mut [u8], p: &mut [u8], program: u16, edition: u32) -> u8 {
+    unsafe { sys::hekthumar_begin(s.as_ptr(), s.len(), c.as_mut_ptr(), c.len(), p.as_mut_ptr(), p.len(), program, edition) }
 }
 
-pub fn begin_pages(s: &[u8], c: &mut [u8], p: &mut [u8], program: u16, pages: usize) -> u8 {
-    unsafe { sys::hekthumar_begin_pages(s.as_ptr(), s.len(), c.as_mut_ptr(), c.len(), p.as_mut_ptr(), p.len(), program, pages) }
+pub fn begin_pages(s: &[u8], c: &mut [u8], p: &mut [u8], program: u16, edition: u32, pages: usize) -> u8 {
+    unsafe { sys::hekthumar_begin_pages(s.as_ptr(), s.len(), c.as_mut_ptr(), c.len(), p.as_mut_ptr(), p.len(), program, edition, pages) }
 }
 
 pub fn call(s: &[u8], c: &mut [u8], p: &[u8], program: u16, registers: &[u8]) -> u8 {

@@ -3,7 +3,10 @@
 use crate::plain_words::{u32_at, u64_at};
 
 pub const PAGE: usize = 4096;
-pub const RECORDS: usize = 16;
+const EDITION: usize = 16;
+const OLDER: u64 = 1;
+const NEWER: u64 = 2;
+pub const RECORDS: usize = 24;
 pub const RECORD: usize = 264;
 pub const TABLE: usize = RECORDS + 17 * RECORD;
 pub const ENTRY: usize = 80;
@@ -72,6 +75,11 @@ impl<'a> Vm<'a> {
     }
 
     #[inline(always)]
+    pub fn older(&self) -> bool {
+        u64_at(self.control, EDITION) == OLDER
+    }
+
+    #[inline(always)]
     pub fn record_at(&self) -> usize {
         RECORDS + RECORD * self.live()
     }
@@ -126,6 +134,12 @@ fn pages_valid(v: &Vm) -> bool {
     v.record() & 0xF000_F000_0000 == 0 || v.pages(2) <= 4096 && v.pages(3) <= 4096
 }
 
+/// An edition, or in the header the edition and the word after it: as one number they are an edition only if that word is 0.
+#[inline(always)]
+pub fn edition_valid(edition: u64) -> bool {
+    matches!(edition, OLDER | NEWER)
+}
+
 #[inline(always)]
 fn valid(s: &[u8], c: &[u8], p: &[u8]) -> bool {
     let Some(head) = c.first_chunk::<TABLE>() else { return false };
@@ -136,7 +150,9 @@ fn valid(s: &[u8], c: &[u8], p: &[u8]) -> bool {
     if u64_at(head, 8) != (TABLE as u64) << 32 | RECORDS as u64 || c.len() != TABLE + 8 * frames || p.len() != PAGE * frames {
         return false;
     }
-    Vm::of(s, c).is_some_and(|v| (v.program() as usize) < v.accounts() && pages_valid(&v))
+    let current = Vm::of(s, c).is_some_and(|v| (v.program() as usize) < v.accounts() && pages_valid(&v));
+    // last: asked earlier, it costs every access a register
+    current && edition_valid(u64_at(head, EDITION))
 }
 
 /// What the headers say, if they are valid.

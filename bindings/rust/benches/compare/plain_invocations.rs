@@ -1,6 +1,6 @@
 //! Begin, call and return.
 
-use crate::plain_headers::{account, number, snapshot_valid, vm, PAGE, RECORD, RECORDS, TABLE};
+use crate::plain_headers::{account, edition_valid, number, snapshot_valid, vm, PAGE, RECORD, RECORDS, TABLE};
 use crate::plain_resize::take;
 use crate::plain_search::{any_stack, Entry, GROUP};
 use crate::plain_words::{put_u16, put_u32, u32_at};
@@ -15,12 +15,12 @@ fn program_valid(s: &[u8], program: u16) -> Result<(), u8> {
 }
 
 #[inline(always)]
-fn try_begin(s: &[u8], c: &mut [u8], p: &mut [u8], program: u16, pages: usize) -> Result<(), u8> {
+fn try_begin(s: &[u8], c: &mut [u8], p: &mut [u8], program: u16, edition: u32, pages: usize) -> Result<(), u8> {
     let frames = p.len() / PAGE;
     if !snapshot_valid(s) || frames > 1024 || !p.len().is_multiple_of(PAGE) || c.len() != TABLE + 8 * frames {
         return Err(1);
     }
-    if pages > 1 {
+    if pages > 1 || !edition_valid(edition.into()) {
         return Err(2);
     }
     program_valid(s, program)?;
@@ -28,8 +28,8 @@ fn try_begin(s: &[u8], c: &mut [u8], p: &mut [u8], program: u16, pages: usize) -
         return Err(8);
     }
     c.fill(0);
-    for (i, word) in [frames, 1, RECORDS, TABLE].into_iter().enumerate() {
-        put_u32(c, 4 * i, word as u32);
+    for (i, word) in [frames as u32, 1, RECORDS as u32, TABLE as u32, edition].into_iter().enumerate() {
+        put_u32(c, 4 * i, word);
     }
     put_u32(c, RECORDS + RECORD, u32::from(program) | (pages as u32) << 16);
     if pages == 1 {
@@ -39,13 +39,13 @@ fn try_begin(s: &[u8], c: &mut [u8], p: &mut [u8], program: u16, pages: usize) -
 }
 
 #[inline(never)]
-pub fn begin(s: &[u8], c: &mut [u8], p: &mut [u8], program: u16) -> u8 {
-    number(try_begin(s, c, p, program, 1))
+pub fn begin(s: &[u8], c: &mut [u8], p: &mut [u8], program: u16, edition: u32) -> u8 {
+    number(try_begin(s, c, p, program, edition, 1))
 }
 
 #[inline(never)]
-pub fn begin_pages(s: &[u8], c: &mut [u8], p: &mut [u8], program: u16, pages: usize) -> u8 {
-    number(try_begin(s, c, p, program, pages))
+pub fn begin_pages(s: &[u8], c: &mut [u8], p: &mut [u8], program: u16, edition: u32, pages: usize) -> u8 {
+    number(try_begin(s, c, p, program, edition, pages))
 }
 
 #[inline(always)]

@@ -65,8 +65,12 @@ fn in_data<const KIND: u8>(s: &[u8], c: &[u8], v: &Vm, index: usize, offset: usi
         return Err(4.into());
     }
     let a = account(s, v.data_at(), index)?;
-    let owned = a.flags & 2 != 0 && a.owner == v.program();
-    allowed::<KIND>(KIND != FETCH && (!stores(KIND) || owned), offset, length)?;
+    let permitted = match KIND {
+        FETCH => v.older() && index == v.program() as usize,
+        STORE | STORE_SPAN => a.flags & 2 != 0 && a.owner == v.program(),
+        _ => true,
+    };
+    allowed::<KIND>(permitted, offset, length)?;
     present(a.length, offset, length)?;
     let page = offset / PAGE;
     match copy_frame(c, index, page) {
@@ -131,7 +135,7 @@ pub fn locate<const KIND: u8>(s: &[u8], c: &[u8], address: u64, length: usize) -
             Ok(Place::Snapshot(v.transaction_at() + offset))
         }
         (0, 2) => fixed::<KIND>(false, 17 * RECORD, offset, length).map(|()| Place::Control(RECORDS + offset)),
-        (0, 3) => in_program::<KIND>(s, v, offset, length),
+        (0, 3) if !v.older() => in_program::<KIND>(s, v, offset, length),
         (0, 4) => in_contexts::<KIND>(v, offset, length),
         (2, _) => in_metadata::<KIND>(s, v, index, offset, length),
         _ => Err(Refused::from(if address >> 48 != 0 { 3 } else { 4 })),

@@ -4,10 +4,11 @@
 use crate::table::Report;
 use crate::world::{slot, World, HEAP, PAGE, STACK};
 use crate::{library, plain_access, plain_address, plain_invocations, plain_view};
-use hekthumar::sys;
+use hekthumar::{sys, Edition};
 use std::hint::black_box;
 
 const STORE: u8 = 1;
+const NEWER: u32 = Edition::Newer as u32;
 
 pub fn addresses(report: &mut Report) {
     let (segment, index, offset, address) = (3, 5, 0x800, 0x0300_0500_0800);
@@ -49,18 +50,19 @@ pub fn loads(report: &mut Report) {
     load_row(report, "load 8, program", &mut small, 0x0000_0300_0010, 8);
     load_row(report, "load 8, block context", &mut small, 0x0000_0400_1010, 8);
     load_row(report, "load 8, metadata", &mut small, 0x0200_0100_0010, 8);
-    fetches(report, &mut small);
+    fetch_row(report, "fetch 4", &mut small, 0x0000_0300_0040);
+    let mut older = World::begun_of(Edition::Older, 64).grown(2).copied(0..32);
+    fetch_row(report, "fetch 4, older edition", &mut older, 0x0300_0000_0040);
     translations(report, &mut small);
     views(report, &mut small);
 }
 
-fn fetches(report: &mut Report, world: &mut World) {
-    let (address, size) = (0x0000_0300_0040, 4);
+fn fetch_row(report: &mut Report, name: &str, world: &mut World, address: u64) {
     report.row(
-        "fetch 4",
+        name,
         world,
-        |w| library::fetch(&w.s, &w.c, &w.p, black_box(address), black_box(size)),
-        |w| plain_access::fetch(&w.s, &w.c, &w.p, black_box(address), black_box(size)),
+        |w| library::fetch(&w.s, &w.c, &w.p, black_box(address), black_box(4)),
+        |w| plain_access::fetch(&w.s, &w.c, &w.p, black_box(address), black_box(4)),
     );
 }
 
@@ -117,14 +119,14 @@ pub fn invocations(report: &mut Report) {
         report.row(
             &format!("begin, {frames} frames"),
             &mut World::begun(frames).grown(2).copied(0..8),
-            |w| library::begin(&w.s, &mut w.c, &mut w.p, black_box(0)),
-            |w| plain_invocations::begin(&w.s, &mut w.c, &mut w.p, black_box(0)),
+            |w| library::begin(&w.s, &mut w.c, &mut w.p, black_box(0), black_box(NEWER)),
+            |w| plain_invocations::begin(&w.s, &mut w.c, &mut w.p, black_box(0), black_box(NEWER)),
         );
         report.row(
             &format!("begin with 0 pages, {frames} frames"),
             &mut World::begun(frames).grown(2).copied(0..8),
-            |w| library::begin_pages(&w.s, &mut w.c, &mut w.p, black_box(0), black_box(0)),
-            |w| plain_invocations::begin_pages(&w.s, &mut w.c, &mut w.p, black_box(0), black_box(0)),
+            |w| library::begin_pages(&w.s, &mut w.c, &mut w.p, black_box(0), black_box(NEWER), black_box(0)),
+            |w| plain_invocations::begin_pages(&w.s, &mut w.c, &mut w.p, black_box(0), black_box(NEWER), black_box(0)),
         );
         report.row(
             &format!("call and return, {frames} frames"),

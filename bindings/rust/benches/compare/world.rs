@@ -2,7 +2,7 @@
 
 use crate::library;
 use crate::plain_words::{put_u16, put_u32};
-use hekthumar::{control_len, pool_len};
+use hekthumar::{control_len, pool_len, Edition};
 
 pub const SLOTS_PAGES: usize = 1024;
 pub const PAGE: usize = 4096;
@@ -48,11 +48,16 @@ fn snapshot() -> Vec<u8> {
 }
 
 impl World {
-    /// A program begun with so many frames, all of them free.
-    pub fn begun(frames: usize) -> World {
+    /// A program of an edition, begun with so many frames, all of them free.
+    pub fn begun_of(edition: Edition, frames: usize) -> World {
         let mut w = World { s: snapshot(), c: vec![0; control_len(frames)], p: vec![0; pool_len(frames)] };
-        assert_eq!(library::begin_pages(&w.s, &mut w.c, &mut w.p, 0, 0), 0);
+        assert_eq!(library::begin_pages(&w.s, &mut w.c, &mut w.p, 0, edition as u32, 0), 0);
         w
+    }
+
+    /// A program of the newer edition.
+    pub fn begun(frames: usize) -> World {
+        World::begun_of(Edition::Newer, frames)
     }
 
     /// Takes copies of the slots' pages, in this order.

@@ -20,7 +20,7 @@ macro_rules! record_calls {
         /// # let snapshot = builder.build().unwrap();
         /// # let (mut control, mut pool) = (vec![0; control_len(2)], vec![0; pool_len(2)]);
         /// # let mut memory = Memory::new(&snapshot, &mut control, &mut pool);
-        /// # memory.begin(program)?;
+        /// # memory.begin(program, Edition::Newer)?;
         /// let file = Buffer { pointer: Address::program(0)?, length: 4 };
         /// let location = Location { file, line: 12, column: 34 };
         /// let at = Address::data(slots, 0x101)?;
@@ -77,7 +77,7 @@ impl Memory<'_> {
     /// # let snapshot = builder.build().unwrap();
     /// # let (mut control, mut pool) = (vec![0; control_len(4)], vec![0; pool_len(4)]);
     /// # let mut memory = Memory::new(&snapshot, &mut control, &mut pool);
-    /// # memory.begin(program)?;
+    /// # memory.begin(program, Edition::Newer)?;
     /// // A program booked a slot, and left an event about it on its stack.
     /// let (at, name) = (Address::stack(0xFF_F000)?, Address::stack(0xFF_F100)?);
     /// memory.store_span(name, b"booked")?;

@@ -6,7 +6,7 @@ use crate::bytes::PAGE;
 use crate::interface::{record_call, Answer, Call, NAMES};
 
 /// In the order of the kinds of a translation, which answers for these and not for records.
-const TRANSLATED: [&str; 5] = ["load", "store", "fetch", "load_span", "store_span"];
+pub const TRANSLATED: [&str; 5] = ["load", "store", "fetch", "load_span", "store_span"];
 
 /// Each segment, with a number that divides every offset at which its bytes present can end.
 const SEGMENTS: [(&str, usize); 8] = [
@@ -93,15 +93,15 @@ fn edges(access: &str) -> Vec<u64> {
 }
 
 /// The accesses that a translation answers for, then those of records.
-fn accesses() -> impl Iterator<Item = &'static str> {
+pub fn accesses() -> impl Iterator<Item = &'static str> {
     TRANSLATED.into_iter().chain(NAMES.into_iter().filter(|name| record_call(name).is_some()))
 }
 
-/// "Fetch is allowed in 0/3 only. Loads are allowed in every row."
+/// "Fetch is allowed in 0/3 only", in the older edition "in type 3 for the current program's account". "Loads are allowed in every row."
 fn is_permitted(access: &str, segment: &str) -> bool {
     let stores = record_call(access).map_or(access.starts_with("store"), |(is_read, _)| !is_read);
     match access {
-        "fetch" => segment == "program",
+        "fetch" => ["program", "account data"].contains(&segment),
         _ if stores => ["account data", "stack", "heap"].contains(&segment),
         _ => true,
     }
@@ -124,7 +124,7 @@ fn possible() -> BTreeSet<Case> {
 }
 
 /// The access that is made or translated, and its address.
-fn access_of(call: &Call) -> Option<(&'static str, u64)> {
+pub fn access_of(call: &Call) -> Option<(&'static str, u64)> {
     let (kind, address) = match call {
         Call::Translate { kind, address, .. } => (usize::from(*kind), address),
         Call::Load { address, .. } => (0, address),

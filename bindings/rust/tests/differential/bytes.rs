@@ -10,13 +10,24 @@ pub const ACCOUNT_ENTRY: usize = 80;
 pub const METADATA: usize = 64;
 pub const CONTEXT: usize = 120;
 
-pub const RECORDS_AT: usize = 16;
+/// The last two of the control block's six words: the edition, and a zero.
+pub const EDITION_AT: usize = 16;
+pub const ZERO_AT: usize = 20;
+/// "Shadow frames start at 24, the table at 4,512"
+pub const RECORDS_AT: usize = 24;
+pub const TABLE_AT: usize = 4512;
 pub const RECORD: usize = 264;
 pub const REGISTERS: usize = 256;
 pub const MAX_LIVE: usize = 16;
-pub const TABLE_AT: usize = RECORDS_AT + RECORD * (MAX_LIVE + 1);
 pub const FRAME_ENTRY: usize = 8;
 pub const MAX_FRAMES: usize = 1024;
+
+const _: () = assert!(TABLE_AT == RECORDS_AT + RECORD * (MAX_LIVE + 1));
+
+/// "1 older, 2 newer": source documents 001 and 000.
+pub const OLDER: u32 = 1;
+pub const NEWER: u32 = 2;
+pub const EDITIONS: [u32; 2] = [OLDER, NEWER];
 
 pub const FREE: u8 = 0;
 pub const COPY: u8 = 1;
@@ -25,6 +36,17 @@ pub const HEAP: u8 = 3;
 
 pub const LIST_HEADER: usize = 16;
 pub const LIST_ENTRY: usize = 8;
+
+/// "frame count F", "live invocations D", the two offsets, "a u32 edition (1 older, 2 newer) and a zero u32"
+pub fn control_words(frames: usize, live: usize, edition: u32) -> [u32; 6] {
+    [frames as u32, live as u32, RECORDS_AT as u32, TABLE_AT as u32, edition, 0]
+}
+
+pub fn put_words(bytes: &mut [u8], words: &[u32]) {
+    for (word, &value) in words.iter().enumerate() {
+        put_u32(bytes, 4 * word, value);
+    }
+}
 
 /// The last three words of a change list's header: "16, 16+8n, total 16+4,104n".
 pub fn list_words(count: u64) -> [u64; 3] {

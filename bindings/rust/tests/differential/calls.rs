@@ -49,8 +49,8 @@ pub fn generate(random: &Random, world: &World, weights: &Weights) -> Call {
     match NAMES[random.weighted(&weights.kinds)] {
         "join" => Call::Join { segment: random.next() as u8, index: random.next() as u16, offset: wide_offset(random) },
         "split" => Call::Split { address: random.next() >> random.choose(&[0, 15, 16, 17, 24]) },
-        "begin" => Call::Begin { program: program(random, world) },
-        "begin_pages" => Call::BeginPages { program: program(random, world), pages: stack_pages(random) },
+        "begin" => Call::Begin { program: program(random, world), edition: edition(random) },
+        "begin_pages" => Call::BeginPages { program: program(random, world), edition: edition(random), pages: stack_pages(random) },
         "translate" => translate(random, world, &weights.stores),
         "load" => {
             let size = size(random);
@@ -58,7 +58,7 @@ pub fn generate(random: &Random, world: &World, weights: &Weights) -> Call {
         }
         "fetch" => {
             let size = size(random);
-            Call::Fetch { address: address(random, world, size, &FETCH_ROWS), size }
+            Call::Fetch { address: address(random, world, size, fetch_rows(world)), size }
         }
         "store" => {
             let (size, value) = (size(random), random.next());
@@ -89,11 +89,11 @@ pub fn generate(random: &Random, world: &World, weights: &Weights) -> Call {
 pub fn good_begin(random: &Random, world: &World) -> Call {
     let accepted = |header: Header, program: u16| Entry::read(&world.snapshot, &header, program, None).is_some_and(|entry| entry.exists);
     let program = Header::read(&world.snapshot).and_then(|header| (0..header.accounts as u16).find(|&program| accepted(header, program)));
-    let program = program.unwrap_or(0);
+    let (program, edition) = (program.unwrap_or(0), random.choose(&EDITIONS));
     match random.below(3) {
-        0 if world.frames() > 0 => Call::Begin { program },
-        1 if world.frames() > 0 => Call::BeginPages { program, pages: 1 },
-        _ => Call::BeginPages { program, pages: 0 },
+        0 if world.frames() > 0 => Call::Begin { program, edition },
+        1 if world.frames() > 0 => Call::BeginPages { program, edition, pages: 1 },
+        _ => Call::BeginPages { program, edition, pages: 0 },
     }
 }
 
@@ -114,6 +114,13 @@ pub const WRONG_STACK_PAGES: [usize; 11] =
 
 fn stack_pages(random: &Random) -> usize {
     random.choose(&[0, 1, random.choose(&WRONG_STACK_PAGES)])
+}
+
+/// Editions that a begin refuses. The low bits of most are those of 1 or 2.
+pub const WRONG_EDITIONS: [u32; 12] = [0, 3, 0xFF, 0x100, 0x101, 0x102, 0x1_0000, 0x1_0001, 0x1_0002, 0x8000_0001, 0x8000_0002, u32::MAX];
+
+fn edition(random: &Random) -> u32 {
+    random.choose(&[OLDER, OLDER, NEWER, NEWER, random.choose(&WRONG_EDITIONS)])
 }
 
 fn registers(random: &Random) -> Bytes {
@@ -146,7 +153,7 @@ fn span(random: &Random, world: &World, rows: &[usize; ROWS]) -> (u64, usize) {
 
 fn translate(random: &Random, world: &World, stores: &[usize; ROWS]) -> Call {
     let kind = random.choose(&[0, 1, 1, 2, 3, 4, 4, random.choose(&[5, 6, 255, 1])]);
-    let rows = [&ANY_ROW, stores, &FETCH_ROWS, &ANY_ROW, stores, &ANY_ROW][usize::from(kind).min(5)];
+    let rows = [&ANY_ROW, stores, fetch_rows(world), &ANY_ROW, stores, &ANY_ROW][usize::from(kind).min(5)];
     if kind == 3 || kind == 4 {
         let (address, length) = span(random, world, rows);
         return Call::Translate { kind, address, length };
@@ -173,13 +180,24 @@ pub fn near(random: &Random, present: Range<usize>, size: usize) -> usize {
     offset
 }
 
-/// How often an address lies in each row of the table of segments; the last is no segment, mostly.
-pub const ROWS: usize = 9;
-pub const ANY_ROW: [usize; ROWS] = [46, 13, 13, 4, 4, 4, 4, 7, 4];
-const STORE_ROWS: [usize; ROWS] = [60, 15, 15, 1, 1, 1, 1, 1, 1];
+/// How often an address lies in each row of the table of segments; the last but one is no segment, mostly, and the last is account data
+/// again, that of the current program.
+pub const ROWS: usize = 10;
+pub const ANY_ROW: [usize; ROWS] = [42, 13, 13, 4, 4, 4, 4, 7, 4, 4];
+const STORE_ROWS: [usize; ROWS] = [54, 15, 15, 1, 1, 1, 1, 1, 1, 6];
 /// For stores to the heap, mostly.
-const HEAP_ROWS: [usize; ROWS] = [16, 15, 60, 1, 1, 1, 1, 1, 1];
-const FETCH_ROWS: [usize; ROWS] = [10, 4, 4, 2, 2, 60, 2, 3, 3];
+const HEAP_ROWS: [usize; ROWS] = [14, 15, 60, 1, 1, 1, 1, 1, 1, 2];
+/// The older edition has the program in its account's data, the newer in 0/3.
+const OLDER_FETCH_ROWS: [usize; ROWS] = [16, 4, 4, 2, 2, 6, 2, 3, 3, 60];
+const NEWER_FETCH_ROWS: [usize; ROWS] = [8, 4, 4, 2, 2, 60, 2, 3, 3, 6];
+
+fn fetch_rows(world: &World) -> &'static [usize; ROWS] {
+    if world.edition() == OLDER {
+        &OLDER_FETCH_ROWS
+    } else {
+        &NEWER_FETCH_ROWS
+    }
+}
 
 /// An address in any row of the table, in no row, or with upper bits.
 fn address(random: &Random, world: &World, size: usize, rows: &[usize; ROWS]) -> u64 {
@@ -216,6 +234,7 @@ fn row(random: &Random, world: &World, rows: &[usize; ROWS]) -> (u8, usize, Rang
             (0, 4, start..start + CONTEXT)
         }
         7 => (2, random.below(world.accounts() + 1), 0..METADATA),
+        9 => (3, world.program(), 0..world.data_length(world.program())),
         _ => (random.below(9) as u8, random.below(6), 0..MAX_DATA),
     }
 }

@@ -5,6 +5,7 @@ use std::collections::BTreeMap;
 use crate::absences::Absences;
 use crate::begins::Begins;
 use crate::discriminants::Discriminants;
+use crate::editions::Editions;
 use crate::interface::{record_call, Answer, Call, KINDS, NAMES};
 use crate::model::Why;
 use crate::record::Shape;
@@ -13,7 +14,7 @@ use crate::returns::Returns;
 pub const NUMBERS: usize = 15;
 
 /// "1 for headers, buffer lengths and frame D"
-const FIRST: [Why; 4] = [Why::Snapshot, Why::Control, Why::Pool, Why::Record];
+pub const FIRST: [Why; 6] = [Why::Snapshot, Why::Control, Why::EditionWord, Why::ZeroWord, Why::Pool, Why::Record];
 /// The first 1 of a begin, which reads nothing of the control block.
 pub const BEGIN: [Why; 3] = [Why::Snapshot, Why::Control, Why::Pool];
 /// What every access asks between the first 1 and permission, but for its length: a record has that of its shape. An access of a single
@@ -24,14 +25,14 @@ const STORE: [Why; 3] = [Why::Forbidden, Why::Tag, Why::NoFreeFrame];
 pub const PROGRAM: [Why; 3] = [Why::NoAccount, Why::Entry, Why::AbsentProgram];
 
 /// The refusals that the papers name for each kind of call, in the order of `NAMES`. Loads are allowed in every row, so they give no
-/// 7 and no 8. A fetch gives 7 outside 0/3, so it never asks for the frame of a stack or heap page.
+/// 7 and no 8. A fetch gives 7 outside the program, so it never asks for the frame of a stack or heap page.
 pub fn possible(name: &str) -> Vec<Why> {
     use Why::*;
     match name {
         "join" => vec![WideOffset],
         "split" => vec![UpperBits],
-        "begin" => [&BEGIN[..], &PROGRAM, &[NoFreeFrame]].concat(),
-        "begin_pages" => [&BEGIN[..], &PROGRAM, &[StackPages, NoFreeFrame]].concat(),
+        "begin" => [&BEGIN[..], &PROGRAM, &[Edition, NoFreeFrame]].concat(),
+        "begin_pages" => [&BEGIN[..], &PROGRAM, &[Edition, StackPages, NoFreeFrame]].concat(),
         "translate" => [&FIRST[..], &REACH, &STORE, &[UnknownKind, Length, Misaligned, Crossing, Unclaimed]].concat(),
         "load" => [&FIRST[..], &REACH, &[Length, Misaligned, Unclaimed]].concat(),
         "fetch" => [&FIRST[..], &REACH, &[Length, Misaligned, Forbidden]].concat(),
@@ -71,6 +72,7 @@ pub struct Coverage {
     absences: Absences,
     pub begins: Begins,
     pub discriminants: Discriminants,
+    pub editions: Editions,
     pub returns: Returns,
     pub histories: u64,
     pub calls: u64,
@@ -110,6 +112,7 @@ impl Coverage {
         faults.extend(self.absences.faults());
         faults.extend(self.begins.faults());
         faults.extend(self.discriminants.faults());
+        faults.extend(self.editions.faults());
         faults.extend(self.returns.faults());
         faults
     }
@@ -131,6 +134,7 @@ impl Coverage {
         self.absences.print();
         self.begins.print();
         self.discriminants.print();
+        self.editions.print();
         self.returns.print();
     }
 }

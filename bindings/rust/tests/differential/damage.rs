@@ -1,6 +1,7 @@
 //! Damage done to the lent buffers between two calls.
 
 use crate::bytes::*;
+use crate::calls::WRONG_EDITIONS;
 use crate::interface::World;
 use crate::random::Random;
 use crate::world::spoil_entry;
@@ -11,9 +12,8 @@ pub fn hand_made_control(random: &Random, world: &mut World) {
         return;
     }
     let live = random.choose(&[1, 2, 3, 15, 16, 1 + random.below(MAX_LIVE)]);
-    for (word, value) in [world.frames(), live, RECORDS_AT, TABLE_AT].into_iter().enumerate() {
-        put_u32(&mut world.control, 4 * word, value as u32);
-    }
+    let words = control_words(world.frames(), live, random.choose(&EDITIONS));
+    put_words(&mut world.control, &words);
     record(random, world);
     frame_table(random, world, 100);
 }
@@ -23,13 +23,14 @@ pub fn lasting(random: &Random, world: &mut World) {
     if world.control.len() < TABLE_AT || world.accounts() == 0 {
         return;
     }
-    match random.below(10) {
+    match random.below(11) {
         0..=5 => frame_table(random, world, random.choose(&[20, 50, 100])),
         6 | 7 => {
             put_u32(&mut world.control, 4, 1 + random.below(MAX_LIVE) as u32);
             record(random, world);
         }
         8 => record(random, world),
+        9 => put_u32(&mut world.control, EDITION_AT, random.choose(&EDITIONS)),
         _ => {
             let account = random.below(world.accounts());
             spoil_entry(random, &mut world.snapshot, account);
@@ -39,8 +40,8 @@ pub fn lasting(random: &Random, world: &mut World) {
 
 /// Any damage; it is undone after the call.
 pub fn passing(random: &Random, world: &mut World) {
-    match random.below(9) {
-        0 => header_word(random, &mut world.control, 4, &[0, 1, 16, 17, TABLE_AT as u32, 1025]),
+    match random.below(10) {
+        0 => header_word(random, &mut world.control, 6, &[0, 1, 2, 3, 16, 17, TABLE_AT as u32, 1025]),
         1 => header_word(random, &mut world.snapshot, 8, &[0, 64, 65, 513, 65_537, 0x8000_0001]),
         2 => bad_record(random, world, world.record_at()),
         3 => {
@@ -63,6 +64,7 @@ pub fn passing(random: &Random, world: &mut World) {
                 random.fill(&mut world.control[at..at + RECORD]);
             }
         }
+        8 => edition_words(random, &mut world.control),
         _ => {
             // The table loses or gains an entry, and the header and the pool agree or not.
             change_length(random, &mut world.control);
@@ -70,6 +72,18 @@ pub fn passing(random: &Random, world: &mut World) {
                 change_length(random, &mut world.pool);
             }
         }
+    }
+}
+
+/// An edition that there is not, or a last word that is not zero. The low bits of most are those of a right one.
+fn edition_words(random: &Random, control: &mut [u8]) {
+    if control.len() < RECORDS_AT {
+        return;
+    }
+    if random.chance(50) {
+        put_u32(control, EDITION_AT, random.choose(&WRONG_EDITIONS));
+    } else {
+        put_u32(control, ZERO_AT, random.choose(&[1, 2, 0x100, 0x1_0000, 1 << 31, u32::MAX]));
     }
 }
 
@@ -143,7 +157,7 @@ fn header_word(random: &Random, buffer: &mut [u8], words: usize, values: &[u32])
 
 /// Cuts or extends a buffer, often by the size of one of its parts.
 fn change_length(random: &Random, buffer: &mut Vec<u8>) {
-    let step = random.choose(&[1, 8, 8, 264, PAGE, PAGE]);
+    let step = random.choose(&[1, FRAME_ENTRY, FRAME_ENTRY, RECORD, PAGE, PAGE]);
     let length = match random.below(8) {
         0 => 0,
         1 => random.below(40),

@@ -56,7 +56,7 @@ fn called() -> World {
 /// No frame is free, and none claims the stack's page.
 fn full() -> World {
     let mut world = grown();
-    world.control[4504..].copy_from_slice(&[[9; 8], [3, 0, 0, 0, 0, 0, 0, 0], [9; 8], [9; 8]].concat());
+    world.control[TABLE_AT..].copy_from_slice(&[[9; 8], [3, 0, 0, 0, 0, 0, 0, 0], [9; 8], [9; 8]].concat());
     world
 }
 

@@ -6,6 +6,7 @@ use crate::calls::{self, Weights};
 use crate::coverage::Coverage;
 use crate::damage;
 use crate::discriminants;
+use crate::editions;
 use crate::interface::{Answer, Call, World};
 use crate::library;
 use crate::model::{self, Bug};
@@ -110,6 +111,7 @@ impl Run<'_> {
         let (mut by_library, mut by_model) = (call.clone(), call.clone());
         let due = model::begin_refusals(&mut self.model, &call);
         let case = returns::case(&call, &self.library, !self.is_replayed());
+        let met = editions::met(&call, &self.library);
         let discriminant = discriminants::met(&call, &mut self.library);
         let given = library::run(&mut self.library, &mut by_library);
         let (expected, why) = model::run(&mut self.model, &mut by_model, self.plan.bug);
@@ -122,6 +124,7 @@ impl Run<'_> {
         self.coverage.record(&call, &given, why);
         self.coverage.begins.record(&call, &self.library, &due);
         self.coverage.returns.record(case, &given, why);
+        self.coverage.editions.record(met, why);
         self.coverage.discriminants.record(discriminant, why);
         let right = self.replayed(&by_library, &given).and_then(|()| self.reads_back(&call, &given));
         self.calls += 1;

@@ -30,8 +30,8 @@ impl fmt::Debug for Bytes {
 pub enum Call {
     Join { segment: u8, index: u16, offset: u32 },
     Split { address: u64 },
-    Begin { program: u16 },
-    BeginPages { program: u16, pages: usize },
+    Begin { program: u16, edition: u32 },
+    BeginPages { program: u16, edition: u32, pages: usize },
     Translate { kind: u8, address: u64, length: usize },
     Load { address: u64, size: usize },
     Fetch { address: u64, size: usize },

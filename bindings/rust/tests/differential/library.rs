@@ -24,8 +24,10 @@ pub fn run(world: &mut World, call: &mut Call) -> Answer {
         match call {
             Call::Join { segment, index, offset } => Answer::Joined(hekthumar_join(*segment, *index, *offset)),
             Call::Split { address } => Answer::Fields(hekthumar_split(*address)),
-            Call::Begin { program } => Answer::Number(hekthumar_begin(s, sl, c, cl, p, pl, *program)),
-            Call::BeginPages { program, pages } => Answer::Number(hekthumar_begin_pages(s, sl, c, cl, p, pl, *program, *pages)),
+            Call::Begin { program, edition } => Answer::Number(hekthumar_begin(s, sl, c, cl, p, pl, *program, *edition)),
+            Call::BeginPages { program, edition, pages } => {
+                Answer::Number(hekthumar_begin_pages(s, sl, c, cl, p, pl, *program, *edition, *pages))
+            }
             Call::Translate { kind, address, length } => Answer::Place(hekthumar_translate(s, sl, c, cl, p, pl, *kind, *address, *length)),
             Call::Load { address, size } => Answer::Value(hekthumar_load(s, sl, c, cl, p, pl, *address, *size)),
             Call::Fetch { address, size } => Answer::Value(hekthumar_fetch(s, sl, c, cl, p, pl, *address, *size)),

@@ -17,6 +17,8 @@ mod damage;
 mod discriminant_trials;
 mod discriminants;
 mod distances;
+mod edition_trials;
+mod editions;
 mod history;
 mod interface;
 mod library;

@@ -4,6 +4,7 @@ mod access;
 mod begin;
 mod bug;
 mod control;
+mod edition;
 mod invocation;
 mod list;
 mod presence;
@@ -43,8 +44,8 @@ pub fn run(world: &mut World, call: &mut Call, bug: Option<Bug>) -> (Answer, Opt
     match call {
         Call::Join { segment, index, offset } => answer(join(*segment, *index, *offset, bug), Answer::Joined),
         Call::Split { address } => answer(split(*address, bug), Answer::Fields),
-        Call::Begin { program } => done(vm.begin(*program)),
-        Call::BeginPages { program, pages } => done(vm.begin_pages(*program, *pages)),
+        Call::Begin { program, edition } => done(vm.begin(*program, *edition)),
+        Call::BeginPages { program, edition, pages } => done(vm.begin_pages(*program, *edition, *pages)),
         Call::Translate { kind, address, length } => answer(translate(&vm, *kind, *address, *length), Answer::Place),
         Call::Load { address, size } => answer(load(&vm, Kind::Load, *address, *size), Answer::Value),
         Call::Fetch { address, size } => answer(load(&vm, Kind::Fetch, *address, *size), Answer::Value),
@@ -66,8 +67,8 @@ pub fn run(world: &mut World, call: &mut Call, bug: Option<Bug>) -> (Answer, Opt
 pub fn begin_refusals(world: &mut World, call: &Call) -> Vec<Why> {
     let vm = Vm { world, bug: None };
     match call {
-        Call::Begin { program } => vm.begin_refusals(*program, 1),
-        Call::BeginPages { program, pages } => vm.begin_refusals(*program, *pages),
+        Call::Begin { program, edition } => vm.begin_refusals(*program, *edition, 1),
+        Call::BeginPages { program, edition, pages } => vm.begin_refusals(*program, *edition, *pages),
         _ => vec![],
     }
 }

@@ -73,6 +73,10 @@ impl Replay {
             (Call::StoreSpan { address, bytes }, _) => self.store(*address, &bytes.0),
             (Call::Load { address, size }, Answer::Value(loaded)) => return self.loaded(*address, &loaded.value.to_le_bytes()[..*size]),
             (Call::LoadSpan { address, out }, _) => return self.loaded(*address, &out.0),
+            // "reading what a load reads"
+            (Call::Fetch { address, size }, Answer::Value(fetched)) => {
+                return self.loaded(*address, &fetched.value.to_le_bytes()[..*size]);
+            }
             // "In demand 3's history each is that one span load or store, a refused one where the number is 14."
             (Call::WriteRecord { .. }, _) if self.slip == Some(Slip::LosesRecords) => {}
             (Call::WriteRecord { address, record }, _) => self.store(*address, &record.bytes()),

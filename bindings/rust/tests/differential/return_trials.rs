@@ -40,33 +40,35 @@ const ENTRIES: [([u8; 8], bool); 16] = [
 const SIZES: [[u16; 3]; 3] = [[1, 9, 0xAAAA], [2, 1, 0xBBBB], [5, 4, 0xCCCC]];
 
 /// Three live invocations over those frames. Records of nobody and bytes that no rule speaks of hold anything.
-fn three_live() -> World {
+fn three_live_of(edition: u32) -> World {
     let frames = ENTRIES.len();
-    let mut control = vec![0xEE; 16 + 264 * 17];
-    for (word, value) in [frames as u32, 3, 16, 4504].into_iter().enumerate() {
-        put_u32(&mut control, 4 * word, value);
-    }
+    let mut control = vec![0xEE; TABLE_AT];
+    put_words(&mut control, &control_words(frames, 3, edition));
     for (place, [stack, heap, padding]) in SIZES.into_iter().enumerate() {
-        let at = 16 + 264 * (place + 1);
+        let at = RECORDS_AT + RECORD * (place + 1);
         for (field, value) in [PROGRAM, stack, heap, padding].into_iter().enumerate() {
             put_u16(&mut control, at + 2 * field, value);
         }
         let registers = (0..=255).map(|byte: u8| byte.wrapping_mul(place as u8 + 1));
-        control[at + 8..at + 264].iter_mut().zip(registers).for_each(|(to, from)| *to = from);
+        control[at + 8..at + RECORD].iter_mut().zip(registers).for_each(|(to, from)| *to = from);
     }
     control.extend(ENTRIES.iter().flat_map(|(entry, _)| entry));
     World { control, pool: vec![0xAA; 4096 * frames], ..trials::world(0, DATA) }
+}
+
+fn three_live() -> World {
+    three_live_of(NEWER)
 }
 
 /// D is 2, record 2 has the third's heap pages, record 3 is zeros, and so are the entries that leave.
 fn two_live(before: &World) -> World {
     let mut after = before.clone();
     after.control[4] = 2;
-    let heap_size = [after.control[16 + 264 * 3 + 4], after.control[16 + 264 * 3 + 5]];
-    after.control[16 + 264 * 2 + 4..][..2].copy_from_slice(&heap_size);
-    after.control[16 + 264 * 3..][..264].fill(0);
+    let heap_size = [after.control[RECORDS_AT + RECORD * 3 + 4], after.control[RECORDS_AT + RECORD * 3 + 5]];
+    after.control[RECORDS_AT + RECORD * 2 + 4..][..2].copy_from_slice(&heap_size);
+    after.control[RECORDS_AT + RECORD * 3..][..RECORD].fill(0);
     for (place, _) in ENTRIES.iter().enumerate().filter(|(_, (_, leaves))| *leaves) {
-        after.control[4504 + 8 * place..][..8].fill(0);
+        after.control[TABLE_AT + FRAME_ENTRY * place..][..FRAME_ENTRY].fill(0);
     }
     after
 }
@@ -93,13 +95,15 @@ fn load(address: u64) -> Call {
 
 #[test]
 fn bytes_written() {
-    let world = three_live();
-    let given = expect_buffers(&world, return_(), 0, &two_live(&world));
-    assert_eq!(given, Call::Return { registers: Bytes((0..=255).map(|byte: u8| byte.wrapping_mul(3)).collect()) });
+    for edition in EDITIONS {
+        let world = three_live_of(edition);
+        let given = expect_buffers(&world, return_(), 0, &two_live(&world));
+        assert_eq!(given, Call::Return { registers: Bytes((0..=255).map(|byte: u8| byte.wrapping_mul(3)).collect()) });
+    }
     // The two bytes that differ from the record as it was.
-    let after = two_live(&world);
-    assert_eq!(world.control[16 + 264 * 2..][..8], [5, 0, 2, 0, 1, 0, 0xBB, 0xBB]);
-    assert_eq!(after.control[16 + 264 * 2..][..8], [5, 0, 2, 0, 4, 0, 0xBB, 0xBB]);
+    let (world, after) = (three_live(), two_live(&three_live()));
+    assert_eq!(world.control[RECORDS_AT + RECORD * 2..][..8], [5, 0, 2, 0, 1, 0, 0xBB, 0xBB]);
+    assert_eq!(after.control[RECORDS_AT + RECORD * 2..][..8], [5, 0, 2, 0, 4, 0, 0xBB, 0xBB]);
 }
 
 /// "The caller's heap size becomes the returning frame's", be it larger, equal or smaller, and whatever the caller's record holds.
@@ -108,10 +112,10 @@ fn heap_sizes() {
     for size in [0, 1, 255, 256, 4095, 4096] {
         for callers in [0, 1, 256, 4096, 4097, 0xFFFF] {
             let mut world = three_live();
-            put_u16(&mut world.control, 16 + 264 * 2 + 4, callers);
-            put_u16(&mut world.control, 16 + 264 * 3 + 4, size);
+            put_u16(&mut world.control, RECORDS_AT + RECORD * 2 + 4, callers);
+            put_u16(&mut world.control, RECORDS_AT + RECORD * 3 + 4, size);
             let after = two_live(&world);
-            assert_eq!(u16_at(&after.control, 16 + 264 * 2 + 4), size);
+            assert_eq!(u16_at(&after.control, RECORDS_AT + RECORD * 2 + 4), size);
             expect_buffers(&world, return_(), 0, &after);
         }
     }
@@ -122,7 +126,7 @@ fn heap_sizes() {
 fn a_wrong_caller() {
     let field = |place: usize, value: u16| {
         let mut world = three_live();
-        put_u16(&mut world.control, 16 + 264 * 2 + 2 * place, value);
+        put_u16(&mut world.control, RECORDS_AT + RECORD * 2 + 2 * place, value);
         let after = two_live(&world);
         expect_buffers(&world, return_(), 0, &after);
         after
@@ -150,7 +154,7 @@ fn refusals() {
     };
     let wrong_record = |place: usize, value: u16| {
         let mut world = live(1);
-        put_u16(&mut world.control, 16 + 264 + 2 * place, value);
+        put_u16(&mut world.control, RECORDS_AT + RECORD + 2 * place, value);
         world
     };
     for world in [live(0), live(17), wrong_record(0, 6), wrong_record(1, 4097), wrong_record(2, 4097)] {
@@ -181,7 +185,7 @@ fn a_list_built_by_a_callee() {
     // The stack page of the callee is gone, its heap pages are there with their tag, and their bytes with them.
     expect_with(&mut world, load(STACK_TOP - 1), 13, 0);
     let entries = [[2, 0, 0, 0, 0xFF, 0x0F, 0, 0], [0; 8], [3, 1, 0, 0, 0, 0, 0, 0], [3, 1, 0, 0, 1, 0, 0, 0]];
-    assert_eq!(world.control[4504..], entries.concat());
+    assert_eq!(world.control[TABLE_AT..], entries.concat());
     assert_eq!([world.pool[4096 * 2], world.pool[4096 * 3]], [100, 101]);
     for page in [0, 1] {
         expect(&mut world, load(HEAP_AT + 4096 * page), 0);
@@ -189,7 +193,7 @@ fn a_list_built_by_a_callee() {
     }
     expect_with(&mut world, load(HEAP_AT + 4096 * 2), 13, 0);
     expect(&mut world, heap(0), 0);
-    assert_eq!(world.control[4504..], [&entries[0][..], &[0; 24]].concat());
+    assert_eq!(world.control[TABLE_AT..], [&entries[0][..], &[0; 24]].concat());
 }
 
 /// "a shallower program may then store to what a deeper one left, and free it where no page further out has a tag below its depth"
@@ -202,7 +206,7 @@ fn a_lower_tag_further_out() {
     expect(&mut world, heap(3), 0);
     // Pages 0 and 1 have tag 1, page 2 has tag 0.
     let entries = [[3, 1, 0, 0, 0, 0, 0, 0], [3, 1, 0, 0, 1, 0, 0, 0], [3, 0, 0, 0, 2, 0, 0, 0], [0; 8]];
-    assert_eq!(world.control[4504..], entries.concat());
+    assert_eq!(world.control[TABLE_AT..], entries.concat());
     expect(&mut world, invoke(), 0);
     for (page, number) in [(0, 0), (1, 0), (2, 7)] {
         expect(&mut world, store(page), number);
@@ -223,7 +227,7 @@ fn a_lower_tag_further_out() {
     expect(&mut world, return_(), 0);
     expect(&mut world, load(HEAP_AT), 0);
     expect_with(&mut world, load(HEAP_AT + 4096), 13, 0);
-    assert_eq!(world.control[4504..], [&entries[0][..], &[0; 24]].concat());
+    assert_eq!(world.control[TABLE_AT..], [&entries[0][..], &[0; 24]].concat());
 }
 
 /// Sixteen invocations, each of which adds a heap page. A record below the caller's keeps its size until its own callee returns.
@@ -231,7 +235,7 @@ fn a_lower_tag_further_out() {
 fn from_the_deepest_to_the_first() {
     let frames = 16;
     let mut world = begun_with(0, DATA);
-    world.control.resize(4504 + 8 * frames, 0);
+    world.control.resize(TABLE_AT + FRAME_ENTRY * frames, 0);
     world.pool.resize(4096 * frames, 0xAA);
     put_u32(&mut world.control, 0, frames as u32);
     expect(&mut world, heap(1), 0);
@@ -239,10 +243,10 @@ fn from_the_deepest_to_the_first() {
         expect(&mut world, invoke(), 0);
         expect(&mut world, heap(pages), 0);
     }
-    let entries = world.control[4504..].to_vec();
+    let entries = world.control[TABLE_AT..].to_vec();
     for live in (1..16).rev() {
         expect(&mut world, return_(), 0);
-        let sizes: Vec<u16> = (1..=16).map(|record| u16_at(&world.control, 16 + 264 * record + 4)).collect();
+        let sizes: Vec<u16> = (1..=16).map(|record| u16_at(&world.control, RECORDS_AT + RECORD * record + 4)).collect();
         let below = 1..live as u16;
         assert_eq!(sizes, below.chain([16]).chain(vec![0; 16 - live]).collect::<Vec<u16>>());
         // Page k has tag k, and the depth is one below the number of live invocations.
@@ -250,7 +254,7 @@ fn from_the_deepest_to_the_first() {
             expect(&mut world, store(page), if page + 1 < live as u64 { 7 } else { 0 });
         }
     }
-    assert!(world.control[4504..] == entries);
+    assert!(world.control[TABLE_AT..] == entries);
     expect(&mut world, heap(0), 0);
-    assert_eq!(world.control[4504..], [0; 8 * 16]);
+    assert_eq!(world.control[TABLE_AT..], [0; 8 * 16]);
 }

@@ -61,7 +61,7 @@ impl Both {
 fn taken(order: impl Iterator<Item = usize>) {
     let world = world();
     let mut both = Both(world.clone(), world);
-    both.give(Call::BeginPages { program: 0, pages: 0 });
+    both.give(Call::BeginPages { program: 0, edition: NEWER, pages: 0 });
     for (turn, page) in order.enumerate() {
         both.page(page);
         both.store(page);
@@ -112,7 +112,7 @@ fn pages_taken_without_order() {
 fn returns_over_both_regions() {
     let world = world();
     let mut both = Both(world.clone(), world);
-    both.give(Call::BeginPages { program: 0, pages: 0 });
+    both.give(Call::BeginPages { program: 0, edition: NEWER, pages: 0 });
     for pages in 1..=FRAMES / 2 {
         both.resize(STACK, pages);
         both.resize(HEAP, pages);
@@ -134,7 +134,7 @@ fn returns_over_both_regions() {
 fn the_key_under_other_uses() {
     let world = world();
     let mut both = Both(world.clone(), world);
-    both.give(Call::BeginPages { program: 0, pages: 0 });
+    both.give(Call::BeginPages { program: 0, edition: NEWER, pages: 0 });
     both.store(7);
     let copy: Vec<u8> = both.0.control[TABLE_AT..][..FRAME_ENTRY].to_vec();
     for frame in 0..FRAMES {

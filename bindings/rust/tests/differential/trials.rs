@@ -70,7 +70,7 @@ pub fn expect_buffers(before: &World, call: Call, number: u8, after: &World) -> 
 /// 01's begin, which 02 keeps as the one with no pages.
 pub fn begun_with(contexts: usize, length: usize) -> World {
     let mut world = world(contexts, length);
-    expect(&mut world, Call::BeginPages { program: 5, pages: 0 }, 0);
+    expect(&mut world, Call::BeginPages { program: 5, edition: NEWER, pages: 0 }, 0);
     world
 }
 

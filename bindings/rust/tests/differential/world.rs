@@ -177,6 +177,10 @@ impl World {
         peek(&self.snapshot, 8, 4)
     }
 
+    pub fn edition(&self) -> u32 {
+        peek(&self.control, EDITION_AT, 4) as u32
+    }
+
     pub fn live(&self) -> usize {
         peek(&self.control, 4, 4).clamp(1, MAX_LIVE)
     }
@@ -202,6 +206,12 @@ impl World {
     pub fn tag_of(&self, region: u8, page: usize) -> Option<usize> {
         let mut entries = self.control.get(TABLE_AT..)?.chunks_exact(FRAME_ENTRY);
         entries.find(|entry| entry[0] == region && usize::from(u16_at(entry, 4)) == page).map(|entry| entry[1].into())
+    }
+
+    /// A copy claims this page of an account.
+    pub fn is_copied(&self, account: usize, page: usize) -> bool {
+        let mut entries = self.control.get(TABLE_AT..).unwrap_or(&[]).chunks_exact(FRAME_ENTRY);
+        entries.any(|entry| entry[0] == COPY && [u16_at(entry, 2), u16_at(entry, 4)].map(usize::from) == [account, page])
     }
 
     pub fn frames(&self) -> usize {

@@ -96,7 +96,7 @@ impl Vm<'_> {
         // "Of the 48 bits, 47..40 are type, 39..24 index, 23..0 offset."
         let (code, index, offset) = ((address >> 40) as u8, (address >> 24) as u16, (address & 0xFF_FFFF) as usize);
         let index = if self.has(Bug::IndexTruncatedToByte) { index & 0xFF } else { index };
-        let segment = segment(&header, code, index)?;
+        let segment = segment(&header, code, index).and_then(|segment| self.in_edition(segment, kind))?;
         let entry = self.entry_concerned(&header, segment, index)?;
         let access = Access { kind, segment, index, offset, length, header, entry };
         let checked = self.order().iter().try_for_each(|step| self.check(*step, &access));
@@ -154,17 +154,22 @@ impl Vm<'_> {
         exempt || access.offset.is_multiple_of(divisor)
     }
 
-    /// The column "Store" but for tags, and "Fetch is allowed in 0/3 only. Loads are allowed in every row."
+    /// The column "Store" but for tags, the edition's rule for a fetch, and "Loads are allowed in every row."
     fn is_permitted(&self, access: &Access) -> bool {
         match access.kind {
             Kind::Load | Kind::LoadSpan => true,
-            Kind::Fetch => access.segment == Segment::Program || (access.segment == Segment::Data && self.has(Bug::FetchInAccountData)),
+            Kind::Fetch => self.may_fetch(access),
             Kind::Store | Kind::StoreSpan => match access.segment {
-                Segment::Data => access.entry.is_some_and(|entry| entry.writable && self.owns(&entry, &access.header)),
+                Segment::Data => self.may_store_to_data(access),
                 Segment::Region(_) => true,
                 _ => false,
             },
         }
+    }
+
+    /// "writable, and owned by the current program"
+    pub fn may_store_to_data(&self, access: &Access) -> bool {
+        access.entry.is_some_and(|entry| entry.writable && self.owns(&entry, &access.header))
     }
 
     /// "owned by the current program"
@@ -213,7 +218,12 @@ impl Vm<'_> {
     fn spot_in_data(&self, access: &Access, data_at: usize) -> Result<Spot, Why> {
         let (account, page, within) = (access.index, access.page(), access.offset % PAGE);
         let store = access.kind.is_store();
-        if let Some(frame) = self.claim_of_copy(account, page).filter(|_| store || !self.has(Bug::LoadReadsOriginal)) {
+        let reads_original = match self.bug {
+            Some(Bug::LoadReadsOriginal) => !store,
+            Some(Bug::FetchReadsOriginal) => access.kind == Kind::Fetch,
+            _ => false,
+        };
+        if let Some(frame) = self.claim_of_copy(account, page).filter(|_| !reads_original) {
             if store && self.has(Bug::TagAskedOfCopies) && usize::from(self.frame_entry(frame).tag) < self.depth() {
                 return Err(Why::Tag);
             }
@@ -291,7 +301,7 @@ impl Vm<'_> {
     }
 }
 
-/// The table's rows by type and index. "Any other pair, also 0/0 and all of types 1, 4 and 6, is no segment."
+/// The table's rows by type and index, in either edition. "Any other pair, also 0/0 and all of types 1, 4 and 6, is no segment."
 fn segment(header: &Header, code: u8, index: u16) -> Result<Segment, Why> {
     let below = usize::from(index) < header.accounts;
     match (code, index) {

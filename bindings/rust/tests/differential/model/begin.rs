@@ -8,10 +8,12 @@ use super::why::Why;
 use super::Vm;
 use crate::bytes::*;
 
-/// What a begin asks: whether the buffers are valid, the number of pages is one of the two, the program exists, the pool has a frame.
+/// What a begin asks: whether the buffers are valid, edition and number of pages are each one of the two, the program exists, the pool has a
+/// frame.
 #[derive(Clone, Copy)]
 enum Step {
     Buffers,
+    Edition,
     Pages,
     Program,
     Frame,
@@ -19,18 +21,19 @@ enum Step {
 
 impl Vm<'_> {
     /// "Every mill's first call is to grow the stack to one page. Begin shall do it": the second begin with one page.
-    pub fn begin(&mut self, program: u16) -> Result<(), Why> {
-        self.begin_pages(program, if self.has(Bug::PlainBeginTakesNoPage) { 0 } else { 1 })
+    pub fn begin(&mut self, program: u16, edition: u32) -> Result<(), Why> {
+        self.begin_pages(program, edition, if self.has(Bug::PlainBeginTakesNoPage) { 0 } else { 1 })
     }
 
-    /// "a second begin that takes the number of pages, 0 or 1"
-    pub fn begin_pages(&mut self, program: u16, pages: usize) -> Result<(), Why> {
+    /// "a second begin that takes the number of pages, 0 or 1"; "Both begins take the edition"
+    pub fn begin_pages(&mut self, program: u16, edition: u32, pages: usize) -> Result<(), Why> {
         let pages = self.mistaken_pages(pages).unwrap_or(pages);
-        if let Some(&why) = self.begin_refusals(program, pages).first() {
+        let edition = self.mistaken_edition(edition).unwrap_or(edition);
+        if let Some(&why) = self.begin_refusals(program, edition, pages).first() {
             self.spoil_refused_begin(why);
             return Err(why);
         }
-        self.write_control(program);
+        self.write_control(program, edition);
         if pages == 1 {
             self.take_first_stack_page();
         }
@@ -38,23 +41,27 @@ impl Vm<'_> {
     }
 
     /// All that a begin is refused for, in the order in which it asks; the first is what it tells.
-    pub fn begin_refusals(&self, program: u16, pages: usize) -> Vec<Why> {
+    pub fn begin_refusals(&self, program: u16, edition: u32, pages: usize) -> Vec<Why> {
         use Step::*;
-        // "1 ..., 4 (not below A), 1 (entry unfit), 4 (does not exist)"; any other number of pages "is 2, right after the first 1";
-        // "With F=0 it answers 8, checked last."
+        // "1 ..., 4 (not below A), 1 (entry unfit), 4 (does not exist)"; any other number of pages, and any other edition, "is 2, right
+        // after the first 1"; "With F=0 it answers 8, checked last."
         let order = match self.bug {
-            Some(Bug::PagesBeforeBuffers) => [Pages, Buffers, Program, Frame],
-            Some(Bug::PagesAfterProgram) => [Buffers, Program, Pages, Frame],
-            Some(Bug::NoFrameBeforeProgram) => [Buffers, Pages, Frame, Program],
-            Some(Bug::NoFrameBeforePages) => [Buffers, Frame, Pages, Program],
-            _ => [Buffers, Pages, Program, Frame],
+            Some(Bug::PagesBeforeBuffers) => [Pages, Buffers, Edition, Program, Frame],
+            Some(Bug::PagesAfterProgram) => [Buffers, Edition, Program, Pages, Frame],
+            Some(Bug::EditionBeforeBuffers) => [Edition, Buffers, Pages, Program, Frame],
+            Some(Bug::EditionAfterProgram) => [Buffers, Pages, Program, Edition, Frame],
+            Some(Bug::EditionAfterFrame) => [Buffers, Pages, Program, Frame, Edition],
+            Some(Bug::NoFrameBeforeProgram) => [Buffers, Edition, Pages, Frame, Program],
+            Some(Bug::NoFrameBeforePages) => [Buffers, Edition, Frame, Pages, Program],
+            _ => [Buffers, Edition, Pages, Program, Frame],
         };
-        order.into_iter().filter_map(|step| self.check_begin(step, program, pages).err()).collect()
+        order.into_iter().filter_map(|step| self.check_begin(step, program, edition, pages).err()).collect()
     }
 
-    fn check_begin(&self, step: Step, program: u16, pages: usize) -> Result<(), Why> {
+    fn check_begin(&self, step: Step, program: u16, edition: u32, pages: usize) -> Result<(), Why> {
         match step {
             Step::Buffers => self.check_buffers(),
+            Step::Edition => EDITIONS.contains(&edition).then_some(()).ok_or(Why::Edition),
             Step::Pages => (pages <= 1).then_some(()).ok_or(Why::StackPages),
             // A snapshot without a valid header has no accounts that could be asked.
             Step::Program => Header::read(&self.world.snapshot).map_or(Ok(()), |header| self.check_program(&header, program)),
@@ -65,7 +72,7 @@ impl Vm<'_> {
         }
     }
 
-    /// "1 (ground; ledger length 4,504+8F for some F in range; pool 4,096F)"
+    /// "1 (ground; ledger length ... for some F in range; pool 4,096F)"
     fn check_buffers(&self) -> Result<(), Why> {
         Header::read(&self.world.snapshot).ok_or(Why::Snapshot)?;
         let frames = self.frames_by_length().ok_or(Why::Control)?;
@@ -93,13 +100,12 @@ impl Vm<'_> {
     }
 
     /// "It writes the whole ledger: header with D=1, frame 1 with that program and no pages, zeros elsewhere. Pool stays."
-    fn write_control(&mut self, program: u16) {
+    fn write_control(&mut self, program: u16, edition: u32) {
         let frames = self.frames_by_length().expect("a begin was accepted");
         let cleared = if self.has(Bug::BeginKeepsFrameTable) { TABLE_AT } else { self.world.control.len() };
         self.world.control[..cleared].fill(0);
-        for (word, value) in [frames, 1, RECORDS_AT, TABLE_AT].into_iter().enumerate() {
-            put_u32(&mut self.world.control, 4 * word, value as u32);
-        }
+        let edition = if self.has(Bug::BeginWritesNewer) { NEWER } else { edition };
+        put_words(&mut self.world.control, &control_words(frames, 1, edition));
         let record_at = self.record_at(1);
         put_u16(&mut self.world.control, record_at, program);
         if self.has(Bug::NoPagesZeroesFrame) && frames > 0 {

@@ -62,11 +62,30 @@ bugs! {
     // Segments.
     ContextRemainderUntested,
     StackFromBottom,
-    FetchInAccountData,
     AbsentMetadataShown,
     ProgramReadsCopy,
     OwnerOfFirstInvocation,
     ShadowWithoutRecordZero,
+
+    // Editions: the two words.
+    /// Any edition but 1 is taken for 2.
+    EditionWordIgnored,
+    /// The low 8 bits of the word alone.
+    EditionWordAsByte,
+    ZeroWordIgnored,
+    CallForgetsEdition,
+    ReturnForgetsEdition,
+
+    // Editions: where a program is.
+    OlderHasProgramSegment,
+    OlderProgramSegmentToldSeven,
+    OlderFetchesNowhere,
+    FetchOfAnyAccount,
+    FetchOfFirstInvocation,
+    /// A program that may not store to its account does not execute from it.
+    FetchJudgedAsStore,
+    FetchReadsOriginal,
+    NewerFetchesFromData,
 
     // Entries of accounts.
     EmptyDataAnywhere,
@@ -98,6 +117,15 @@ bugs! {
     PagesAs32Bits,
     PagesBeforeBuffers,
     PagesAfterProgram,
+    EditionBeforeBuffers,
+    EditionAfterProgram,
+    EditionAfterFrame,
+    /// Any other edition is taken for 2.
+    BeginOfAnyEdition,
+    /// The low 8 bits of the edition alone.
+    EditionAsByte,
+    EditionAs16Bits,
+    BeginWritesNewer,
     NoFrameBeforeProgram,
     NoFrameBeforePages,
     /// F = 0 is accepted with one page.

@@ -23,14 +23,15 @@ impl Vm<'_> {
         if control.len() < RECORDS_AT {
             return Err(Why::Control);
         }
-        // "frame count F (0..1,024), live invocations D (1..16), offset of shadow frames (16), offset of the frame table (4,504)"
+        // "frame count F (0..1,024), live invocations D (1..16), offset of shadow frames ..., offset of the frame table"
         let words: Vec<usize> = (0..4).map(|word| u32_at(control, 4 * word) as usize).collect();
         let ranges = words[0] <= MAX_FRAMES && (1..=MAX_LIVE).contains(&words[1]);
         let offsets = words[2..] == [RECORDS_AT, TABLE_AT];
-        // "Length 4,504+8F"
+        // "the length is 4,512+8F"
         if !ranges || !offsets || control.len() != TABLE_AT + FRAME_ENTRY * words[0] {
             return Err(Why::Control);
         }
+        self.check_edition_words()?;
         // "Pool, written: F frames of 4,096 bytes."
         if self.world.pool.len() != PAGE * words[0] {
             return Err(Why::Pool);

@@ -39,6 +39,7 @@ impl Vm<'_> {
         put_u16(control, at + 4, sizes[1] as u16);
         put_u16(control, at + 6, padding);
         control[at + 8..at + RECORD].copy_from_slice(registers);
+        self.forget_edition(Bug::CallForgetsEdition);
         Ok(())
     }
 

@@ -135,7 +135,9 @@ impl Vm<'_> {
     pub fn is_overtaken(&self, why: Why) -> bool {
         let Some(bug) = self.bug else { return false };
         match why {
-            Why::Snapshot | Why::Control | Why::Pool | Why::Record => bug == Bug::DiscriminantBeforeBuffers,
+            Why::Snapshot | Why::Control | Why::EditionWord | Why::ZeroWord | Why::Pool | Why::Record => {
+                bug == Bug::DiscriminantBeforeBuffers
+            }
             Why::UpperBits => bug == Bug::DiscriminantBeforeUpperBits,
             Why::NoSegment | Why::NoAccount => bug == Bug::DiscriminantBeforeSegment,
             Why::Entry => bug == Bug::DiscriminantBeforeEntry,

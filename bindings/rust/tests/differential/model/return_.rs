@@ -40,6 +40,7 @@ impl Vm<'_> {
             self.world.control[at..at + RECORD].fill(0);
         }
         put_u32(&mut self.world.control, 4, live as u32 - 1);
+        self.forget_edition(Bug::ReturnForgetsEdition);
         Ok(())
     }
 

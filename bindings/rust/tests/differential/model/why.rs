@@ -4,6 +4,8 @@
 pub enum Why {
     Snapshot,
     Control,
+    EditionWord,
+    ZeroWord,
     Pool,
     Record,
     Entry,
@@ -14,6 +16,7 @@ pub enum Why {
     CopiedTwice,
     UnknownKind,
     Length,
+    Edition,
     StackPages,
     UpperBits,
     WideOffset,
@@ -43,9 +46,9 @@ impl Why {
     pub fn number(self) -> u8 {
         use Why::*;
         match self {
-            Snapshot | Control | Pool | Record | Entry | Unclaimed => 1,
+            Snapshot | Control | EditionWord | ZeroWord | Pool | Record | Entry | Unclaimed => 1,
             CopyOfNoAccount | CopyOfInvalidEntry | CopyWithoutLiveBytes | CopiedTwice => 1,
-            UnknownKind | Length | StackPages => 2,
+            UnknownKind | Length | Edition | StackPages => 2,
             UpperBits | WideOffset => 3,
             NoSegment | NoAccount | AbsentProgram => 4,
             Misaligned => 5,

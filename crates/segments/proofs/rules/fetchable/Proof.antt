@@ -1,4 +1,4 @@
--- `rules::fetchable` meets its contract: at each arm the presence is that variant. Assumes nothing.
+-- `rules::fetchable` meets its contract: at each arm the rule is that variant. Assumes nothing.
 use borrow.Author.Needs.{needs}
 use Rattle.segments.proofs.rules.fetchable.Statement.{statement}
 use Rattle.segments.proofs.rules.fetchable.Tie as tie
@@ -10,16 +10,6 @@ fetchable-spec =
     (λ c. search needs)
     (λ c. search needs)
     (λ c. search needs)
-    (λ c. search needs)
-    (λ c. search needs)
-    (λ c. search needs)
-    (λ c. search needs)
-    (λ c. search needs)
     (λ c. rw (c .enum-told .given .1))
     (λ c. rw (c .enum-told2 .given .1))
-    (λ c. rw (c .enum-told3 .given .1))
-    (λ c. rw (c .enum-told4 .given .1))
-    (λ c. rw (c .enum-told5 .given .1))
-    (λ c. rw (c .enum-told6 .given .1))
-    (λ c. rw (c .enum-told7 .given .1))
-    (λ c. rw (c .enum-told8 .given .1)))
+    (λ c. rw (c .enum-told3 .given .1)))

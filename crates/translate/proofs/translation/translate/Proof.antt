@@ -1,11 +1,13 @@
 -- `translate::translation::translate` meets its contract: a first test refuses, or no row is found, or the row's function answers, which has
 -- what the first tests give. Assumes nothing.
-use Prim.Native.Nat.{ℕ}
+use Prim.Native.Nat.{ℕ, _≤_}
 use mathlib.Core.Path.{_≡_, refl, sym, _∙_}
 use mathlib.Core.Bool.{Bool, true, false}
 use mathlib.Core.List.{List}
 use native.Mathlib.Omega.{arith}
+use lib.ListN.{length}
 use borrow.Author.Needs.{needs}
+use Rattle.layout.specs.Control.{tableAt}
 use Rattle.refusal.specs.Checks.{need, _then_}
 use Rattle.refusal.specs.declared.Check.{Check}
 use Rattle.refusal.specs.declared.Check.the-variants.{Pass, Stop}
@@ -16,12 +18,13 @@ use Rattle.address.specs.Address.{typeOf, indexOf, offsetOf}
 use Rattle.snapshot.specs.Header.{headerOf, accounts, snapshotValid}
 use Rattle.snapshot.specs.declared.header.Header.{Header}
 use Rattle.snapshot.proofs.Facts.{snapshot-facts}
-use Rattle.control.specs.Control.{controlReady, buffersValid}
-use Rattle.control.proofs.Facts.{BuffersFacts, buffers-facts, ready-decides}
-use Rattle.segments.specs.Rules.{rules, rowOf}
+use Rattle.control.specs.Control.{edition, controlReady, buffersValid}
+use Rattle.control.proofs.Facts.{BuffersFacts, control-facts, buffers-facts, ready-decides}
+use Rattle.segments.specs.Rules.{segmentOf}
 use Rattle.segments.specs.declared.rules.Row.{Row}
 use Rattle.segments.specs.declared.rules.Segment.{Segment}
 use Rattle.segments.specs.declared.rules.Segment.the-variants.{Is, Missing}
+use Rattle.segments.proofs.Table.{segment-found}
 use Rattle.translate.specs.Checks.{firstChecks}
 use Rattle.translate.specs.Translate.{inRow, inSegment, translateOf, Named, Ready}
 use Rattle.translate.specs.declared.place.Translation.{Translation}
@@ -54,6 +57,11 @@ module _ (s c p : List ℕ) (kind a n : ℕ) where
     stopped e = rw (← tested, e)
 
     module _ (pass : check ≡ Pass) where
+      -- the header is there
+      header-there : tableAt ≤ length c
+      unfolding firstChecks
+      header-there = control-facts c (buffers-facts s c p (need-then _ _ _ (sym tested ∙ pass) .0) .control) .header
+
       -- the row's function has what it needs of them
       has : {i o : ℕ} → o ≡ offsetOf a → Ready s c (request kind i o n)
       unfolding firstChecks
@@ -68,12 +76,12 @@ module _ (s c p : List ℕ) (kind a n : ℕ) where
             offset = omega arith;
           }
 
-      module _ {h : Header} {t i : ℕ} {found : Segment} (header : h ≡ headerOf s) (type : t ≡ typeOf a) (index : i ≡ indexOf a)
-          (sought : found ≡ rowOf rules t i (h .accounts)) where
+      module _ {h : Header} {v t i : ℕ} {found : Segment} (built : v ≡ edition c) (header : h ≡ headerOf s) (type : t ≡ typeOf a) (index : i ≡ indexOf a)
+          (sought : found ≡ segmentOf v t i (h .accounts)) where
         -- the segment that was looked for is the definition's
         same : {o : ℕ} → o ≡ offsetOf a → translateOf s c p kind a n ≡ inSegment s c found (request kind i o n)
         unfolding translateOf
-        same e = rw (← tested, pass, sought, header, type, index, e)
+        same e = rw (← tested, pass, sought, built, header, type, index, e)
 
         -- no row is found
         missing : found ≡ Missing → Refused NoSegment ≡ translateOf s c p kind a n
@@ -82,7 +90,7 @@ module _ (s c p : List ℕ) (kind a n : ℕ) where
 
         -- a row is found: its function answers
         answered : {r : Row} {o : ℕ} {x : Translation} → found ≡ Is r → o ≡ offsetOf a
-            → x ≡ inRow s c (r .presence) (r .store) (request kind i o n)
+            → x ≡ inRow s c (r .presence) (r .fetch) (r .store) (request kind i o n)
             → x ≡ translateOf s c p kind a n
         unfolding inSegment
         answered f e h = rw (same e, f) h
@@ -90,7 +98,7 @@ module _ (s c p : List ℕ) (kind a n : ℕ) where
         -- it has all that it asks
         asked : {r : Row} {o : ℕ} → found ≡ Is r → o ≡ offsetOf a
             → Ready s c (request kind i o n) × Named s (r .presence) (request kind i o n)
-        asked {r} {o} f e = (has e, named s t (request kind i o n) r ((rw header at (sym sought)) ∙ f) (r .presence) refl)
+        asked {r} {o} f e = (has e, named s t (request kind i o n) r (segment-found v t i (accounts s) r ((rw header at (sym sought)) ∙ f) .0) (r .presence) refl)
 
 -- where the function starts
 abbrev start-of : tie.After-first-checks → tie.Start
@@ -105,7 +113,7 @@ check-at c =
 
 -- where they have been made
 abbrev tests-of : tie.After-segment-of → tie.After-first-checks
-tests-of c = c .before .before .before .before .before
+tests-of c = c .before .before .before .before .before .before
 
 returns : tie.Need-returns
 returns c = not-valid _ _ _ _ _ _ (sym (c .before .valid .ensures) ∙ c .if1 .left)
@@ -119,20 +127,23 @@ returns-2 c = stopped _ _ _ _ _ _ (check-at (c .before .before .before)) (c .bef
 returns-3 : tie.Need-returns-3
 returns-3 c =
     let d = c .before .before in
-    missing _ _ _ _ _ _ (check-at (tests-of d)) (d .before .before .before .enum-told .given .1) (tests-of d .before .before .whole-header .ensures)
-    (d .before .segment-type .ensures) (d .before .before .index .ensures) (d .segment-of .ensures) (c .enum-told2 .given .1)
+    missing _ _ _ _ _ _ (check-at (tests-of d)) (d .before .before .before .before .enum-told .given .1) (d .before .before .edition-of .ensures) (tests-of d .before .before .whole-header .ensures)
+    (d .before .segment-type .ensures) (d .before .before .before .index .ensures) (d .segment-of .ensures) (c .enum-told2 .given .1)
+
+edition-of-requires : tie.Need-edition-of-requires
+edition-of-requires c κs = header-there _ _ _ _ _ _ (check-at (c .before .before .before)) (c .before .enum-told .given .1)
 
 in-row-requires : tie.Need-in-row-requires
 in-row-requires c κs =
     let d = c .before .before .before .before in
-    asked _ _ _ _ _ _ (check-at (tests-of d)) (d .before .before .before .enum-told .given .1) (tests-of d .before .before .whole-header .ensures)
-    (d .before .segment-type .ensures) (d .before .before .index .ensures) (d .segment-of .ensures) (c .before .before .found .given .1) (c .offset .ensures)
+    asked _ _ _ _ _ _ (check-at (tests-of d)) (d .before .before .before .before .enum-told .given .1) (d .before .before .edition-of .ensures) (tests-of d .before .before .whole-header .ensures)
+    (d .before .segment-type .ensures) (d .before .before .before .index .ensures) (d .segment-of .ensures) (c .before .before .found .given .1) (c .offset .ensures)
 
 returns-4 : tie.Need-returns-4
 returns-4 c =
     let d = c .before .before .before .before .before in
-    answered _ _ _ _ _ _ (check-at (tests-of d)) (d .before .before .before .enum-told .given .1) (tests-of d .before .before .whole-header .ensures)
-    (d .before .segment-type .ensures) (d .before .before .index .ensures) (d .segment-of .ensures) (c .before .before .before .found .given .1) (c .before .offset .ensures) (c .in-row .ensures)
+    answered _ _ _ _ _ _ (check-at (tests-of d)) (d .before .before .before .before .enum-told .given .1) (d .before .before .edition-of .ensures) (tests-of d .before .before .whole-header .ensures)
+    (d .before .segment-type .ensures) (d .before .before .before .index .ensures) (d .segment-of .ensures) (c .before .before .before .found .given .1) (c .before .offset .ensures) (c .in-row .ensures)
 
 pub translate-spec : {M : Type 1} → statement M
 translate-spec =
@@ -147,6 +158,7 @@ translate-spec =
     returns-2
     (λ c. search needs)
     (λ c κs. search needs)
+    edition-of-requires
     (λ c κs. search needs)
     (λ c κs. search needs)
     (λ c. search needs)
