@@ -53,7 +53,7 @@ extern "C" {
 #define HEKTHUMAR_IN_CONTROL 2  /* at: from the control block's start */
 #define HEKTHUMAR_ZEROS 3       /* every byte is 0 */
 #define HEKTHUMAR_IN_POOL 4     /* at: from the pool's start */
-#define HEKTHUMAR_TAKE 5        /* at: in the pool, once `frame` is taken for a copy of the account's page */
+#define HEKTHUMAR_TAKE 5        /* at: in the pool, once `frame`, the highest free one, is taken for a copy of the account's page */
 
 /* Holders, in hekthumar_view. */
 #define HEKTHUMAR_VIEW_NONE 0
@@ -252,7 +252,8 @@ hekthumar_value hekthumar_load(const uint8_t *snapshot, size_t snapshot_len, con
 hekthumar_value hekthumar_fetch(const uint8_t *snapshot, size_t snapshot_len, const uint8_t *control, size_t control_len,
                                 const uint8_t *pool, size_t pool_len, uint64_t address, size_t size);
 
-/* Stores the `size` lowest bytes of a value, 1, 2, 4 or 8. */
+/* Stores the `size` lowest bytes of a value, 1, 2, 4 or 8. The first store to a page of an account takes the highest free frame for a copy of
+ * the page, or gives 8, last, if none is free. */
 hekthumar_outcome hekthumar_store(const uint8_t *snapshot, size_t snapshot_len, uint8_t *control, size_t control_len, uint8_t *pool,
                                   size_t pool_len, uint64_t address, size_t size, uint64_t value);
 
@@ -260,7 +261,7 @@ hekthumar_outcome hekthumar_store(const uint8_t *snapshot, size_t snapshot_len, 
 hekthumar_outcome hekthumar_load_span(const uint8_t *snapshot, size_t snapshot_len, const uint8_t *control, size_t control_len,
                                       const uint8_t *pool, size_t pool_len, uint64_t address, uint8_t *out, size_t out_len);
 
-/* Stores all of `bytes`, 1 to 4,096 of them. */
+/* Stores all of `bytes`, 1 to 4,096 of them; takes a frame as hekthumar_store does. */
 hekthumar_outcome hekthumar_store_span(const uint8_t *snapshot, size_t snapshot_len, uint8_t *control, size_t control_len, uint8_t *pool,
                                        size_t pool_len, uint64_t address, const uint8_t *bytes, size_t bytes_len);
 
@@ -296,7 +297,8 @@ uint8_t hekthumar_call(const uint8_t *snapshot, size_t snapshot_len, uint8_t *co
 uint8_t hekthumar_return(const uint8_t *snapshot, size_t snapshot_len, uint8_t *control, size_t control_len, const uint8_t *pool,
                          size_t pool_len, uint8_t *registers, size_t registers_len);
 
-/* Resizes the stack or the heap of the current invocation. Refusals: 1, 2, 10, then 8, or 1 and 7. */
+/* Resizes the stack or the heap of the current invocation. New pages take the lowest free frames, zeroed. Refusals: 1, 2, 10, then 8, or 1
+ * and 7. */
 uint8_t hekthumar_resize(const uint8_t *snapshot, size_t snapshot_len, uint8_t *control, size_t control_len, uint8_t *pool,
                          size_t pool_len, uint8_t region, size_t pages);
 

@@ -87,8 +87,8 @@ const REFUSED: &str = "
 Customer 34 asks for slots 5999 and 6000. Slot 5999 is the last. A refused booking changes nothing.";
 
 const POOL: &str = "
-Two frames of four are in use: begin took frame 0 for a page of stack, the first booking frame 1 for
-page 1 of account 1.";
+Two frames of four are in use: begin took frame 0, the lowest, for a page of stack, the first booking
+frame 3, the highest, for page 1 of account 1. What is free lies between them.";
 
 const LISTED: &str = "
 The change list says what to write back: page 1, whole. These of its slots differ from the original.";

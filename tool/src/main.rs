@@ -9,6 +9,7 @@ mod failure;
 mod files;
 mod numbers;
 mod output;
+mod pool_ends;
 mod pool_map;
 mod reason;
 mod rules;

@@ -1,5 +1,6 @@
-//! A map of the pool, a character to a frame, and a line for each frame in use.
+//! A map of the pool, a character to a frame, how far its two ends are used, and a line for each frame in use.
 
+use crate::pool_ends;
 use crate::rules::former::made_before_editions;
 use crate::world::COPY;
 use hekthumar::inspect::{frame_entries, FrameEntry};
@@ -8,12 +9,13 @@ use hekthumar::Region;
 const STACK: u8 = Region::Stack as u8;
 const HEAP: u8 = Region::Heap as u8;
 
-/// The legend, the map with 64 frames to a row, and what lies in each frame that is not free.
+/// The legend, the map with 64 frames to a row, its ends, and what lies in each frame that is not free.
 pub fn lines(control: &[u8]) -> Vec<String> {
     let marks = marks(control);
     let rows = marks.as_bytes().chunks(64).enumerate();
     let mut lines = vec!["pool (. free, A copy of an account's page, S stack, H heap, ? other use)".to_string()];
     lines.extend(rows.map(|(row, marks)| format!("  {:4} {}", 64 * row, String::from_utf8_lossy(marks))));
+    lines.extend(pool_ends::line(&entries(control).map(|entry| entry.usage).collect::<Vec<u8>>()));
     let used = entries(control).enumerate().filter(|(_, entry)| entry.usage != 0);
     lines.extend(used.map(|(frame, entry)| format!("  frame {frame}: {}", holds(entry))));
     lines

@@ -50,7 +50,7 @@ fn standard_error_that_is_full() {
     let came = tool::came(tool::command(folder.path()).args(["run", "snapshot", "script"]).stderr(full()));
     assert_eq!(came.status, 1);
     assert!(
-        came.output.ends_with("\n     0 S...............\n  frame 0: stack, page 4095, tag 0\n"),
+        came.output.ends_with("longest free run 15 (frames 1 to 15)\n  frame 0: stack, page 4095, tag 0\n"),
         "the script was not carried out to its end: {}",
         came.output
     );
@@ -75,6 +75,7 @@ fn both_streams_in_one_file() {
         "map",
         "pool ",
         "     0 ",
+        "  copies at the top 0, stack and heap at the bottom 1, ",
         "  frame 0: ",
         "script: 1 of 3 ",
     ];

@@ -32,6 +32,7 @@ fn scripts() -> Vec<Script> {
         over("walk", snapshot::trials(0, &[])),
         over("edges", snapshot::trials(1, &snapshot::slots())),
         over("contexts", snapshot::trials(512, &snapshot::slots())),
+        over("frames", snapshot::trials(1, &snapshot::slots())),
         begin(),
         heap(),
         records(),
@@ -55,27 +56,28 @@ fn begin() -> Script {
 
 /// What the script keeps: with a list that was left, with pages left by two depths, and with entries outside the sizes.
 fn heap() -> Script {
-    let held = |pages, heap: [[u8; 8]; 4]| {
-        let frames = [[entry(STACK, 0, 0, 4_095), entry(COPY, 0, 5, 0)].as_slice(), &heap].concat();
+    let held = |pages, between: [[u8; 8]; 4]| {
+        let frames = [[entry(STACK, 0, 0, 4_095)].as_slice(), &between, &[entry(COPY, 0, 5, 0)]].concat();
         control(&[record(0, 1, pages, &[])], &frames)
     };
     let page = |page, tag| entry(HEAP, tag, 0, page);
     let controls = [
-        ("left-control", held(2, [page(0, 1), page(1, 1), UNUSED, UNUSED])),
+        ("left-control", held(2, [UNUSED, page(0, 1), page(1, 1), UNUSED])),
         ("nested-control", held(3, [page(0, 1), page(1, 2), page(2, 1), UNUSED])),
-        ("outside-control", held(0, [page(9, 5), UNUSED, entry(STACK, 0, 0, 0), UNUSED])),
+        ("outside-control", held(0, [UNUSED, page(9, 5), UNUSED, entry(STACK, 0, 0, 0)])),
     ];
     let pools =
-        [("left-pool", heap_pool([[11, 0x0700_0000_1000], [33, 0], [0, 0]])), ("nested-pool", heap_pool([[77, 0], [99, 98], [97, 0]]))];
+        [("left-pool", heap_pool([[7, 0], [11, 0x0700_0000_1000], [33, 0]])), ("nested-pool", heap_pool([[77, 0], [99, 98], [97, 0]]))];
     let files = vec![("snapshot", snapshot::trials(1, &snapshot::slots()))];
     Script { name: "heap", files, left: controls.into_iter().chain(pools).collect() }
 }
 
-/// Six frames: the stack page, page 0 of account 5 with another first byte, three with two numbers each, zeros.
+/// Six frames: the stack page, three with two numbers each, zeros, page 0 of account 5 with another first byte. One that was freed keeps its
+/// numbers.
 fn heap_pool(numbers: [[u64; 2]; 3]) -> Vec<u8> {
     let copy = patched(&snapshot::slots()[..PAGE], 0, &[0xee]);
-    let pool = patched(&[0; 6 * PAGE], PAGE, &copy);
-    numbers.iter().zip(2..).fold(pool, |pool, (cell, frame)| patched(&pool, frame * PAGE, &cell.map(u64::to_le_bytes).concat()))
+    let pool = patched(&[0; 6 * PAGE], 5 * PAGE, &copy);
+    numbers.iter().zip(1..).fold(pool, |pool, (cell, frame)| patched(&pool, frame * PAGE, &cell.map(u64::to_le_bytes).concat()))
 }
 
 /// What the script writes, field after field, and nothing of what is refused.
@@ -92,11 +94,11 @@ fn records() -> Script {
     let stack = page(&[0; PAGE], &[(7, location)]);
     let heap = page(&[0; PAGE], &[around.as_slice(), &[buffer, event], &returned].concat());
     let copy = page(&snapshot::slots()[..PAGE], &[call, (0, longs(&[1, 7, 7]))]);
-    let frames = [entry(STACK, 0, 0, 4_095), entry(HEAP, 0, 0, 0), entry(COPY, 0, 5, 0), entry(HEAP, 0, 0, 1)];
+    let frames = [entry(STACK, 0, 0, 4_095), entry(HEAP, 0, 0, 0), entry(HEAP, 0, 0, 1), entry(COPY, 0, 5, 0)];
     let left = vec![
         ("records-control", control(&[record(0, 1, 2, &[])], &frames)),
         ("records-list", list::list(&[(5, 0, &copy)])),
-        ("records-pool", [stack, heap, copy, vec![0; PAGE]].concat()),
+        ("records-pool", [stack, heap, vec![0; PAGE], copy].concat()),
     ];
     Script { name: "records", files: vec![("snapshot", snapshot::trials(1, &snapshot::slots()))], left }
 }
@@ -105,9 +107,9 @@ fn records() -> Script {
 fn editions() -> Script {
     let stack = entry(STACK, 0, 0, 4_095);
     let begun = control(&[record(0, 1, 0, &[])], &[stack, UNUSED, UNUSED, UNUSED]);
-    let called = control(&[record(0, 1, 1, &[])], &[stack, entry(HEAP, 0, 0, 0), entry(COPY, 0, 1, 0), UNUSED]);
+    let called = control(&[record(0, 1, 1, &[])], &[stack, entry(HEAP, 0, 0, 0), UNUSED, entry(COPY, 0, 1, 0)]);
     let copy = patched(&[snapshot::code(), vec![0; 84]].concat(), 1, &[0xee]);
-    let pool = patched(&patched(&[0; 4 * PAGE], 0, &[42]), 2 * PAGE, &copy);
+    let pool = patched(&patched(&[0; 4 * PAGE], 0, &[42]), 3 * PAGE, &copy);
     let list = list::list(&[(1, 0, &copy)]);
     let older =
         [("older-begun", older(&begun)), ("older-control", older(&called)), ("older-pool", pool.clone()), ("older-list", list.clone())];
@@ -128,7 +130,7 @@ fn inspect() -> Script {
 
 fn bookings() -> Script {
     let page = &list::trial_slots()[PAGE..];
-    let pool = patched(&patched(&[0; 3 * PAGE], PAGE, page), 2 * PAGE, &[9; 8]);
+    let pool = patched(&patched(&[0; 3 * PAGE], 2 * PAGE, page), PAGE, &[9; 8]);
     let left = [("no-bookings", list::list(&[])), ("bookings", list::list(&[(5, 1, page)])), ("pool", pool)];
     Script { name: "bookings", files: vec![("snapshot", snapshot::trials(1, &snapshot::slots()))], left: left.into() }
 }

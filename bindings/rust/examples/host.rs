@@ -13,7 +13,7 @@ fn main() -> Result<(), Box<dyn std::error::Error>> {
     let mut memory = Memory::new(&snapshot, &mut control, &mut pool);
     memory.begin(program, Edition::Newer)?;
 
-    // Two stores on one page: the first takes a copy of it, the second writes to that copy.
+    // Two stores on one page: the first takes the last frame for a copy of it, the second writes to that copy.
     memory.store_u8(Address::data(slots, 0x1004)?, 0x11)?;
     memory.store_u8(Address::data(slots, 0x1008)?, 0x22)?;
 

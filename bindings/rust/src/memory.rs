@@ -118,16 +118,16 @@ impl<'a> Memory<'a> {
     /// # let program = builder.account(Account::program([1, 2, 3, 4]));
     /// # let slots = builder.account(Account::data(program, vec![7; 6_000]).writable());
     /// # let snapshot = builder.build().unwrap();
-    /// # let (mut control, mut pool) = (vec![0; control_len(2)], vec![0; pool_len(2)]);
+    /// # let (mut control, mut pool) = (vec![0; control_len(4)], vec![0; pool_len(4)]);
     /// # let mut memory = Memory::new(&snapshot, &mut control, &mut pool);
     /// # memory.begin(program, Edition::Newer)?;
     /// let address = Address::data(slots, 0x1004)?;
     /// let place = memory.translate(Kind::Store, address, 1)?;
-    /// // Frame 0 is the stack's page.
-    /// assert_eq!(place, Place::Take { at: 4_096 + 4, frame: 1, account: slots, page: 1 });
+    /// // Of four frames begin took frame 0 for the stack; a copy takes the highest that is free.
+    /// assert_eq!(place, Place::Take { at: 3 * 4_096 + 4, frame: 3, account: slots, page: 1 });
     ///
     /// memory.store_u8(address, 0x11)?;
-    /// assert_eq!(memory.translate(Kind::Store, address, 1)?, Place::Pool { at: 4_096 + 4 });
+    /// assert_eq!(memory.translate(Kind::Store, address, 1)?, Place::Pool { at: 3 * 4_096 + 4 });
     /// # Ok::<(), Refusal>(())
     /// ```
     pub fn translate(&self, kind: Kind, address: Address, length: usize) -> Result<Place, Refusal> {
@@ -147,7 +147,8 @@ impl<'a> Memory<'a> {
         check_access(sys::Outcome { distance, number }).map(|()| value)
     }
 
-    /// Stores the lowest 1, 2, 4 or 8 bytes of a value.
+    /// Stores the lowest 1, 2, 4 or 8 bytes of a value. The first store to a page of an account takes the highest free frame for a copy of it,
+    /// and is refused with [`Refusal::OutOfFrames`] if none is free; later ones go to that copy.
     pub fn store(&mut self, address: Address, size: usize, value: u64) -> Result<(), Refusal> {
         check_access(lend!(as_mut_ptr, self, hekthumar_store(address.0, size, value)))
     }
@@ -157,7 +158,7 @@ impl<'a> Memory<'a> {
         check_access(lend!(as_ptr, self, hekthumar_load_span(address.0, out.as_mut_ptr(), out.len())))
     }
 
-    /// Stores all of `bytes`, 1 to 4,096 of them within one page; needs no alignment.
+    /// Stores all of `bytes`, 1 to 4,096 of them within one page; needs no alignment. Takes a frame as [`Memory::store`] does.
     pub fn store_span(&mut self, address: Address, bytes: &[u8]) -> Result<(), Refusal> {
         check_access(lend!(as_mut_ptr, self, hekthumar_store_span(address.0, bytes.as_ptr(), bytes.len())))
     }
@@ -202,7 +203,8 @@ impl<'a> Memory<'a> {
         check(lend!(as_mut_ptr, self, hekthumar_return(registers.as_mut_ptr(), registers.len())))
     }
 
-    /// Gives the stack or heap this many pages. New pages are zeros. Shrinking frees the pages that are farthest from the region's base.
+    /// Gives the stack or heap this many pages. New pages are zeros, in the lowest free frames, so that copies, which take the highest, stay
+    /// apart from them. Shrinking frees the pages that are farthest from the region's base.
     ///
     /// Refused with [`Refusal::RegionTooLarge`] above 4,096 pages, [`Refusal::OutOfFrames`] if fewer frames are free than growing needs,
     /// and [`Refusal::NotPermitted`] if one of the pages that shrinking would free was added at a lower call depth. So a heap page that a

@@ -54,7 +54,7 @@ pub enum Place {
     Take {
         /// First byte once the copy is made, from the pool's start.
         at: usize,
-        /// The frame that would be taken.
+        /// The frame that would be taken: the highest free one.
         frame: u16,
         /// The account whose page would be copied.
         account: u16,

@@ -183,7 +183,7 @@ fn a_refused_call_changes_nothing() {
 
 #[test]
 fn a_page_view_moves_from_the_snapshot_to_the_pool() {
-    let mut host = Host::new(2);
+    let mut host = Host::new(4);
     let mut memory = host.begin();
     let (snapshot, ..) = memory.buffers();
     let data = account_data(snapshot, SLOTS).unwrap();
@@ -194,14 +194,14 @@ fn a_page_view_moves_from_the_snapshot_to_the_pool() {
     memory.store_u16(slot(0x1004), 0x2211).unwrap();
     let (.., pool) = memory.buffers();
     let view = memory.page_view(SLOTS, 1).unwrap();
-    assert_eq!(view.as_ptr_range(), pool[4_096..][..1_904].as_ptr_range());
+    assert_eq!(view.as_ptr_range(), pool[3 * 4_096..][..1_904].as_ptr_range());
     assert_eq!(view[4..6], [0x11, 0x22]);
-    assert_eq!(memory.page_place(SLOTS, 1), Ok(PagePlace::Pool(4_096..6_000)));
+    assert_eq!(memory.page_place(SLOTS, 1), Ok(PagePlace::Pool(12_288..14_192)));
 }
 
 #[test]
 fn translation_names_the_place_of_every_segment() {
-    let mut host = Host::new(2);
+    let mut host = Host::new(4);
     let memory = host.begin();
     let place = |kind, address: Result<Address, Refusal>| memory.translate(kind, address.unwrap(), 1).unwrap();
     let contexts = 32 + 80 * 6;
@@ -212,7 +212,7 @@ fn translation_names_the_place_of_every_segment() {
     assert_eq!(place(Kind::Fetch, Address::program(1)), Place::Snapshot { at: contexts + 120 + 11 + 1 });
     assert_eq!(place(Kind::Load, Address::shadow(264)), Place::Control { at: 24 + 264 });
     assert_eq!(place(Kind::Store, Address::stack(0xFFF001)), Place::Pool { at: 1 });
-    assert_eq!(place(Kind::StoreSpan, Ok(slot(5))), Place::Take { at: 4_096 + 5, frame: 1, account: SLOTS, page: 0 });
+    assert_eq!(place(Kind::StoreSpan, Ok(slot(5))), Place::Take { at: 3 * 4_096 + 5, frame: 3, account: SLOTS, page: 0 });
 }
 
 #[test]
@@ -318,7 +318,7 @@ fn the_fields_of_the_formats_are_those_of_the_calls() {
     let current = Invocation::read(&control, 2).unwrap();
     assert_eq!((current.program, current.stack, current.heap, current.registers[1]), (CALLEE, 1, 1, 0x77));
     let entry = |usage, tag, account, page| FrameEntry { usage, tag, account, page };
-    let entries = [entry(2, 0, 0, 4_095), entry(1, 0, SLOTS, 1), entry(3, 1, 0, 0), entry(0, 0, 0, 0)];
+    let entries = [entry(2, 0, 0, 4_095), entry(3, 1, 0, 0), entry(0, 0, 0, 0), entry(1, 0, SLOTS, 1)];
     assert!(frame_entries(&control).eq(entries));
     assert_eq!(ListHeader::read(&list), Some(ListHeader { pages: 1, entries_at: 16, pages_at: 24, total: 4_120 }));
     assert_eq!(ListEntry::read(&list, 0), Some(ListEntry { account: SLOTS, page: 1, live: 1_904 }));

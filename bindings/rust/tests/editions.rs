@@ -65,12 +65,12 @@ fn a_program_of_the_older_edition_executes_from_its_account() {
 
 #[test]
 fn it_executes_what_it_has_stored() {
-    let mut host = host(2);
+    let mut host = host(3);
     let mut memory = begun(&mut host, PROGRAM, Edition::Older);
     memory.store_u8(code(PROGRAM, 4), 0x6F).unwrap();
     assert_eq!(memory.fetch(code(PROGRAM, 4), 4), Ok(0x0605_046F));
     assert_eq!(memory.fetch(code(PROGRAM, 0), 4), Ok(FIRST));
-    assert_eq!(memory.translate(Kind::Fetch, code(PROGRAM, 4), 4), Ok(Place::Pool { at: PAGE + 4 }));
+    assert_eq!(memory.translate(Kind::Fetch, code(PROGRAM, 4), 4), Ok(Place::Pool { at: 2 * PAGE + 4 }));
 }
 
 #[test]

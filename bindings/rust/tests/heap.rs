@@ -99,11 +99,11 @@ fn a_return_frees_the_stack_and_leaves_the_heap() {
     memory.store_u8(Address::data(SLOTS, 0).unwrap(), 7).unwrap();
     let copy = FrameEntry { usage: 1, tag: 0, account: SLOTS, page: 0 };
     let [first, second] = [stack_entry(0, 4_095), stack_entry(1, 4_094)];
-    assert_eq!(entries(&memory), [first, heap_entry(0, 0), second, heap_entry(1, 1), copy, FREE]);
+    assert_eq!(entries(&memory), [first, heap_entry(0, 0), second, heap_entry(1, 1), FREE, copy]);
     let pool = memory.buffers().2.to_vec();
 
     return_from(&mut memory);
-    assert_eq!(entries(&memory), [first, heap_entry(0, 0), FREE, heap_entry(1, 1), copy, FREE]);
+    assert_eq!(entries(&memory), [first, heap_entry(0, 0), FREE, heap_entry(1, 1), FREE, copy]);
     assert_eq!(sizes(&memory, 2), [2, 0]);
     assert!(memory.buffers().2 == pool);
 }

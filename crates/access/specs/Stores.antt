@@ -45,7 +45,7 @@ takenControl c t = putFrameEntry c (t .frame .0) (copyEntry t)
 abbrev pub takenPool : List ℕ → List ℕ → NewCopy → List ℕ
 takenPool s p t = splice p (frameStart (t .frame)) (originalPage s (t .account) (t .page))
 
--- "takes the lowest free frame, writes its entry"
+-- where a frame is taken, "writes its entry"
 abbrev pub preparedControl : List ℕ → Place → List ℕ
 preparedControl c (InSnapshot at) = c
 preparedControl c (InControl at) = c

@@ -1,5 +1,6 @@
 pub mod Tests
 pub mod Lowest
+pub mod Highest
 pub mod Parts
 pub mod Counting
 pub mod Every

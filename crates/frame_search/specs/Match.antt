@@ -1,6 +1,6 @@
 -- How the code searches the frame table: an entry as one number, some of whose bits are wanted. These serve the inner functions; who claims a
 -- page is said in `Table` of `frames`. Assumes nothing.
-use Prim.Native.Nat.{ℕ, _+_, _*_, _≤_, _<_}
+use Prim.Native.Nat.{ℕ, _+_, _-_, _*_, _≤_, _<_}
 use mathlib.Core.Path.{_≡_}
 use mathlib.Core.Bool.{Bool, false}
 use mathlib.Core.List.{List}
@@ -8,7 +8,10 @@ use lib.Bits.{bitAnd}
 use lib.Dec.{eqb}
 use Rattle.layout.specs.Control.{usageCopy}
 use Rattle.words.specs.Words.{wordAt}
+use Rattle.choice.specs.Search.{fromTop, below}
 use Rattle.frames.specs.Table.{frameEntryAt}
+use Rattle.frames.specs.declared.claim.End.{End}
+use Rattle.frames.specs.declared.claim.End.the-variants.{Lowest, Highest}
 
 -- how many entries are asked at once
 abbrev pub groupSize : ℕ
@@ -41,3 +44,23 @@ copyOf c key i = matches c copyBits (usageCopy + 65536 * key) i
 -- those of the use byte and the page
 abbrev pub pageBits : ℕ
 pageBits = 255 + 4294967296 * 65535
+
+-- the test of n entries, of which each goes by how far it is from that end of the table
+abbrev pub fromEnd : End → (ℕ → Bool) → ℕ → ℕ → Bool
+fromEnd Lowest f n = f
+fromEnd Highest f n = fromTop f n
+
+-- the entry that is so far from that end; n where that is how far
+abbrev pub entryFrom : End → ℕ → ℕ → ℕ
+entryFrom Lowest k n = k
+entryFrom Highest k n = below n k
+
+-- where the group ends of which the nearest entry is so far from that end
+abbrev pub groupEnd : End → ℕ → ℕ → ℕ
+groupEnd Lowest k n = k + groupSize
+groupEnd Highest k n = n - k
+
+-- how many entries further up the next group is, from that end
+abbrev pub groupUp : End → ℕ
+groupUp Lowest = groupSize
+groupUp Highest = 0

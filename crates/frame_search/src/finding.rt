@@ -4,10 +4,12 @@ use super::counting::wanted_by_groups;
 use super::keyed::lowest_keyed;
 use super::search::GROUP;
 use super::search::first_few;
+use super::search::highest_match;
 use super::search::lowest_match;
 use control::header::frame_count;
 use control::shadow::Region;
 use frames::claim::Claim;
+use frames::claim::End;
 use frames::claim::Found;
 use frames::claim::usage_of;
 use frames::table::usage_at;
@@ -30,7 +32,7 @@ ghost use Rattle.control.specs.Control.{controlValid};
 ghost use Rattle.control.specs.declared.shadow.Region.{Region};
 ghost use Rattle.frames.specs.Table.{frameEntryAt, frameEntryOf, usageOf, claims, isCopy, isFree, foundIn, frameOf, freeFrame, freeCount};
 ghost use Rattle.frames.specs.declared.claim.Claim.the-variants.{Copy, Anonymous};
-ghost use Rattle.frame_search.specs.Match.{groupSize, NoneOf};
+ghost use Rattle.frame_search.specs.Match.{groupSize, NoneOf, fromEnd, entryFrom};
 
 // An index below the bound as the frame that was found, the bound as none.
 fn as_found(i: usize, frames: usize) -> Found
@@ -78,12 +80,15 @@ pub fn frame_of(c: &[u8], q: Claim) -> Found
     }
 }
 
-// The lowest free entry from `from` on; the frame count where none is.
-pub fn lowest_free(c: &[u8], from: usize, frames: usize) -> usize
+// How far from that end of the table the nearest free entry is, of those `from` entries away and more; the frame count where none is free.
+pub fn next_free(c: &[u8], end: End, from: usize, frames: usize) -> usize
     requires { ⌜ (frames ≤ frameLimit) × (from ≤ frames) × (controlLength frames ≤ length (now c)) ⌝ }
-    ensures { λ r. ⌜ r ≡ seek (isFree (now (c .entry))) from (frames - from) ⌝ }
+    ensures { λ r. ⌜ r ≡ seek (fromEnd end (isFree (now (c .entry))) frames) from (frames - from) ⌝ }
 {
-    lowest_match(c, from, frames, USAGE_BITS, FREE as u64)
+    match end {
+        End::Lowest => lowest_match(c, from, frames, USAGE_BITS, FREE as u64),
+        End::Highest => highest_match(c, from, frames, USAGE_BITS, FREE as u64),
+    }
 }
 
 // The lowest copy from `from` on; the frame count where none is. Copies mostly stand one behind the other, so the first entry is looked at before
@@ -115,13 +120,29 @@ pub fn group_may_hold_regions(c: &[u8], i: usize) -> bool
     2 <= any % 4
 }
 
-// The free frame that is handed out next: the lowest.
-pub fn free_frame(c: &[u8]) -> Found
+// The entry that is so far from that end of the table; the frame count where that is how far.
+fn entry_from(end: End, k: usize, frames: usize) -> usize
+    ensures { λ r. ⌜ r ≡ entryFrom end k frames ⌝ }
+{
+    match end {
+        End::Lowest => k,
+        End::Highest => {
+            if k < frames {
+                return frames - (k + 1);
+            }
+            frames
+        }
+    }
+}
+
+// The free frame that is handed out next: the lowest or the highest.
+pub fn free_frame(c: &[u8], end: End) -> Found
     requires { ⌜ controlValid (now c) ≡ true ⌝ }
-    ensures { λ r. ⌜ r ≡ freeFrame (now (c .entry)) ⌝ }
+    ensures { λ r. ⌜ r ≡ freeFrame end (now (c .entry)) ⌝ }
 {
     let frames = frame_count(c);
-    as_found(lowest_free(c, 0, frames), frames)
+    let k = next_free(c, end, 0, frames);
+    as_found(entry_from(end, k, frames), frames)
 }
 
 // Whether at least n frames are free. The count stops once they are found.

@@ -3,6 +3,7 @@
 use super::search::GROUP;
 use super::search::by_groups;
 use super::search::one_by_one;
+use frames::claim::End;
 use layout::control::COPY;
 use layout::control::FRAME_ENTRY;
 use layout::control::TABLE_AT;
@@ -61,7 +62,7 @@ fn by_key(c: &[u8], from: usize, frames: usize, key: u32) -> usize
             if found < i + GROUP {
                 return found;
             }
-            return by_groups(c, i + GROUP, frames, COPY_BITS, wanted);
+            return by_groups(c, End::Lowest, i + GROUP, frames, COPY_BITS, wanted);
         }
         i += GROUP;
     }

@@ -1,4 +1,6 @@
-// The one search of the frame table: the lowest entry whose bits under a mask are those wanted. An entry is read as one number.
+// The one search of the frame table: the lowest or the highest entry whose bits under a mask are those wanted. An entry is read as one number. From the
+// top it goes by how many are above it, so that the search is the one from the bottom with the entries in the other order.
+use frames::claim::End;
 use layout::control::FRAME_ENTRY;
 use layout::control::TABLE_AT;
 use std::num::wrapping_sub_u64;
@@ -8,9 +10,9 @@ ghost use mathlib.Core.Bool.{false};
 ghost use Prim.Native.Nat.{_+_, _-_, _≤_, _<_};
 ghost use lib.ListN.{length};
 ghost use Rattle.layout.specs.Control.{controlLength, frameLimit};
-ghost use Rattle.choice.specs.Search.{seek};
+ghost use Rattle.choice.specs.Search.{seek, fromTop};
 ghost use Rattle.frames.specs.Table.{frameEntryAt};
-ghost use Rattle.frame_search.specs.Match.{groupSize, matches, NoneOf};
+ghost use Rattle.frame_search.specs.Match.{groupSize, matches, NoneOf, fromEnd, groupEnd, groupUp};
 
 // How many entries are asked at once.
 pub const GROUP: usize = 16;
@@ -49,22 +51,82 @@ pub fn one_by_one(c: &[u8], from: usize, to: usize, mask: u64, wanted: u64) -> u
     to
 }
 
-// The lowest entry from `from` on that matches, by groups: one in which none may is passed over.
-pub fn by_groups(c: &[u8], from: usize, frames: usize, mask: u64, wanted: u64) -> usize
-    requires { ⌜ (from ≤ frames) × (frames ≤ frameLimit) × (controlLength frames ≤ length (now c)) ⌝ }
-    ensures { λ r. ⌜ r ≡ seek (matches (now (c .entry)) mask wanted) from (frames - from) ⌝ }
+// How many entries are above the highest that matches, of those with `from` above and more, looked at one by one down to `to`; `to` where none
+// matches.
+fn one_by_one_down(c: &[u8], frames: usize, from: usize, to: usize, mask: u64, wanted: u64) -> usize
+    requires { ⌜ (from ≤ to) × (to ≤ frames) × (frames ≤ frameLimit) × (controlLength frames ≤ length (now c)) ⌝ }
+    ensures { λ r. ⌜ r ≡ seek (fromTop (matches (now (c .entry)) mask wanted) frames) from (to - from) ⌝ }
 {
-    let mut i = from;
-    while i + GROUP <= frames {
-        if group_may(c, i, mask, wanted) {
-            let found = one_by_one(c, i, i + GROUP, mask, wanted);
-            if found < i + GROUP {
-                return found;
-            }
+    let mut k = from;
+    while k < to {
+        if u64_at(c, TABLE_AT + FRAME_ENTRY * (frames - (k + 1))) & mask == wanted {
+            return k;
         }
-        i += GROUP;
+        k += 1;
     }
-    one_by_one(c, i, frames, mask, wanted)
+    to
+}
+
+// The same from either end of the table: how far from it the nearest entry is that matches, of those `from` entries away and more and fewer than
+// `to`; `to` where none matches.
+fn one_by_one_from(
+    c: &[u8],
+    end: End,
+    frames: usize,
+    from: usize,
+    to: usize,
+    mask: u64,
+    wanted: u64,
+) -> usize
+    requires { ⌜ (from ≤ to) × (to ≤ frames) × (frames ≤ frameLimit) × (controlLength frames ≤ length (now c)) ⌝ }
+    ensures { λ r. ⌜ r ≡ seek (fromEnd end (matches (now (c .entry)) mask wanted) frames) from (to - from) ⌝ }
+{
+    match end {
+        End::Lowest => one_by_one(c, from, to, mask, wanted),
+        End::Highest => one_by_one_down(c, frames, from, to, mask, wanted),
+    }
+}
+
+// Where the group ends that is so far from that end.
+fn group_end(end: End, k: usize, frames: usize) -> usize
+    requires { ⌜ (k ≤ frames) × (frames ≤ frameLimit) ⌝ }
+    ensures { λ r. ⌜ r ≡ groupEnd end k frames ⌝ }
+{
+    match end {
+        End::Lowest => k + GROUP,
+        End::Highest => frames - k,
+    }
+}
+
+// How many entries further up the next group is, from that end.
+fn group_up(end: End) -> usize
+    ensures { λ r. ⌜ r ≡ groupUp end ⌝ }
+{
+    match end {
+        End::Lowest => GROUP,
+        End::Highest => 0,
+    }
+}
+
+// How far from that end the nearest entry is that matches, of those `from` entries away and more, by groups: those in which none may are passed over.
+// One function for both ends, so that it is called and not compiled into the one that asks for the highest. Which way the groups go is told
+// before the loop, which asks no group for the end.
+pub fn by_groups(c: &[u8], end: End, from: usize, frames: usize, mask: u64, wanted: u64) -> usize
+    requires { ⌜ (from ≤ frames) × (frames ≤ frameLimit) × (controlLength frames ≤ length (now c)) ⌝ }
+    ensures { λ r. ⌜ r ≡ seek (fromEnd end (matches (now (c .entry)) mask wanted) frames) from (frames - from) ⌝ }
+{
+    let up = group_up(end);
+    let down = GROUP - up;
+    let mut k = from;
+    let mut to = group_end(end, from, frames);
+    while k + GROUP <= frames {
+        if group_may(c, to - GROUP, mask, wanted) {
+            break;
+        }
+        k += GROUP;
+        to = to + up - down;
+    }
+    one_by_one_from(c, end, frames, k, frames, mask, wanted)
 }
 
 // Where the entries end that are looked at one by one.
@@ -88,5 +150,18 @@ pub fn lowest_match(c: &[u8], from: usize, frames: usize, mask: u64, wanted: u64
     if found < few {
         return found;
     }
-    by_groups(c, few, frames, mask, wanted)
+    by_groups(c, End::Lowest, few, frames, mask, wanted)
+}
+
+// How many entries are above the highest that matches, of those with `from` above and more; the frame count where none matches.
+pub fn highest_match(c: &[u8], from: usize, frames: usize, mask: u64, wanted: u64) -> usize
+    requires { ⌜ (from ≤ frames) × (frames ≤ frameLimit) × (controlLength frames ≤ length (now c)) ⌝ }
+    ensures { λ r. ⌜ r ≡ seek (fromTop (matches (now (c .entry)) mask wanted) frames) from (frames - from) ⌝ }
+{
+    let few = first_few(from, frames);
+    let found = one_by_one_down(c, frames, from, few, mask, wanted);
+    if found < few {
+        return found;
+    }
+    by_groups(c, End::Highest, few, frames, mask, wanted)
 }

@@ -1,6 +1,6 @@
 -- The laws of what a search of the frame table finds: the first index that passes a test, or nothing where none does.
 -- Assumes nothing.
-use mathlib.Core.Path.{_≡_}
+use mathlib.Core.Path.{_≡_, sym, ap}
 use mathlib.Core.Bool.{Bool, true, false}
 use Prim.Native.Nat.{ℕ, _<_}
 use native.Mathlib.Nat.{le-refl}
@@ -20,6 +20,14 @@ pub record First (t : ℕ → Bool) (n i : ℕ) : Type 0 where
   pub passes : t i ≡ true
   pub before : (j : ℕ) → j < i → t j ≡ false
 
+-- what is found is the index, which is below n
+pub found-at : (n i : ℕ) (f : Frame) → foundIn n i ≡ At f → (f .0 ≡ i) × (i < n)
+unfolding foundIn
+found-at n i f h =
+    by-test (ltb i n)
+    (λ e. let z : At (record { 0 = i }) ≡ At f = rw e at h in let y : record { 0 = i } ≡ f = cc in (ap (λ (x : Frame). x .0) (sym y), ltb-true i n e))
+    (λ e. let z : Nothing ≡ At f = rw e at h in let y : _≡_ {A = ℕ} 0 1 = cc in absurd (omega arith))
+
 module _ (t : ℕ → Bool) (n : ℕ) where
   -- the lowest, where it is below n, is the first
   pub lowest-first : lowest t n < n → First t n (lowest t n)
@@ -27,14 +35,7 @@ module _ (t : ℕ → Bool) (n : ℕ) where
 
   -- what is found is the first
   pub at-first : (f : Frame) → foundIn n (lowest t n) ≡ At f → First t n (f .0)
-  unfolding foundIn
-  at-first f h =
-      by-test (ltb (lowest t n) n)
-      (λ e.
-      let z : At (record { 0 = lowest t n }) ≡ At f = rw e at h in
-      let y : record { 0 = lowest t n } ≡ f = cc in
-      rw (← y) (lowest-first (ltb-true (lowest t n) n e)))
-      (λ e. let z : Nothing ≡ At f = rw e at h in let y : _≡_ {A = ℕ} 0 1 = cc in absurd (omega arith))
+  at-first f h = let x = found-at n (lowest t n) f h in rw (x .0) (lowest-first (x .1))
 
   -- where nothing is found, none passes
   pub nothing-none : foundIn n (lowest t n) ≡ Nothing → (j : ℕ) → j < n → t j ≡ false

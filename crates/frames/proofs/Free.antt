@@ -7,28 +7,45 @@ use mathlib.Core.List.{List}
 use Prim.Native.Nat.{ℕ, suc, _≤_, _<_}
 use lib.ListN.{length}
 use borrow.Author.Tests.{ne-eqb}
-use Rattle.choice.specs.Search.{lowest, count}
+use Rattle.choice.specs.Search.{lowest, highest, count}
 use Rattle.choice.proofs.Counting.{count-some, count-less}
+use Rattle.choice.proofs.Highest.{highest-hits}
 use Rattle.control.specs.Control.{frames}
 use Rattle.pages.specs.declared.Frame.{Frame}
 use Rattle.frames.specs.Table.{entryEnd, frameEntryOf, putFrameEntry, isFree, freeFrame, freeCount}
 use Rattle.frames.specs.declared.table.FrameEntry.{FrameEntry}
+use Rattle.frames.specs.declared.claim.End.{End}
+use Rattle.frames.specs.declared.claim.End.the-variants.{Lowest, Highest}
 use Rattle.frames.specs.declared.claim.Found.the-variants.{At}
 use Rattle.frames.proofs.Entries.{EntryRange, entry-other, entry-same}
 use Rattle.frames.proofs.Untouched.{frames-kept}
 use Rattle.frames.proofs.Claims.{unused}
-use Rattle.frames.proofs.Found.{First, lowest-first, at-first, first-at}
+use Rattle.frames.proofs.Found.{First, lowest-first, at-first, first-at, found-at}
 
 -- ---- the free frame that is handed out next
 
+-- i is a frame that is free
+pub record Free (c : List ℕ) (i : ℕ) : Type 0 where
+  pub below : i < frames c
+  pub passes : isFree c i ≡ true
+
 module _ (c : List ℕ) where
-  -- the free frame that is found is the first
-  pub free-found : (f : Frame) → freeFrame c ≡ At f → First (isFree c) (frames c) (f .0)
+  -- asked for the lowest, the free frame that is found is the first
+  pub free-first : (f : Frame) → freeFrame Lowest c ≡ At f → First (isFree c) (frames c) (f .0)
   unfolding freeFrame
-  free-found f h = at-first (isFree c) (frames c) f h
+  free-first f h = at-first (isFree c) (frames c) f h
+
+  -- a frame that is found is free, by either end
+  pub free-found : (e : End) (f : Frame) → freeFrame e c ≡ At f → Free c (f .0)
+  unfolding freeFrame
+  free-found Lowest f h = let x = free-first f h in record { below = x .below; passes = x .passes }
+  free-found Highest f h =
+      let x : f .0 ≡ highest (isFree c) (frames c) = found-at (frames c) (highest (isFree c) (frames c)) f h .0 in
+      let l : highest (isFree c) (frames c) < frames c = found-at (frames c) (highest (isFree c) (frames c)) f h .1 in
+      record { below = rw x l; passes = rw x (highest-hits (isFree c) (frames c) l) }
 
   -- where one is free, the lowest is found
-  pub free-some : 1 ≤ freeCount c → freeFrame c ≡ At (record { 0 = lowest (isFree c) (frames c) })
+  pub free-some : 1 ≤ freeCount c → freeFrame Lowest c ≡ At (record { 0 = lowest (isFree c) (frames c) })
   unfolding freeFrame freeCount
   free-some h =
       first-at (isFree c) (frames c) (lowest (isFree c) (frames c)) (lowest-first (isFree c) (frames c) (count-some (isFree c) (frames c) h))

@@ -1,4 +1,4 @@
--- Document 01, "Three lent buffers": the ledger's frame table, and "Copies". Assumes nothing.
+-- Document 01, "Three lent buffers": the ledger's frame table, and "Copies", with document 02, "Seven". Assumes nothing.
 use Prim.Native.Nat.{ℕ, _+_, _*_}
 use mathlib.Core.Bool.{Bool, true, false}
 use mathlib.Core.List.{List, _++_}
@@ -6,13 +6,15 @@ use lib.Dec.{ltb, eqb}
 use Rattle.layout.specs.Control.{tableAt, frameEntrySize, usageFree, usageCopy, usageStack, usageHeap}
 use Rattle.words.specs.Words.{wordAt, wordBytes, splice}
 use Rattle.choice.specs.Choice.{pick, both}
-use Rattle.choice.specs.Search.{lowest, count}
+use Rattle.choice.specs.Search.{lowest, highest, count}
 use Rattle.control.specs.Control.{frames}
 use Rattle.control.specs.declared.shadow.Region.{Region}
 use Rattle.control.specs.declared.shadow.Region.the-variants.{Stack, Heap}
 use Rattle.frames.specs.declared.table.FrameEntry.{FrameEntry}
 use Rattle.frames.specs.declared.claim.Claim.{Claim}
 use Rattle.frames.specs.declared.claim.Claim.the-variants.{Copy, Anonymous}
+use Rattle.frames.specs.declared.claim.End.{End}
+use Rattle.frames.specs.declared.claim.End.the-variants.{Lowest, Highest}
 use Rattle.frames.specs.declared.claim.Found.{Found}
 use Rattle.frames.specs.declared.claim.Found.the-variants.{At, Nothing}
 
@@ -95,9 +97,10 @@ foundIn n i = pick (ltb i n) (At (record { 0 = i })) Nothing
 unfoldable pub frameOf : List ℕ → Claim → Found
 frameOf c q = foundIn (frames c) (lowest (claims c q) (frames c))
 
--- "takes the lowest free frame": the one choice of a free frame
-unfoldable pub freeFrame : List ℕ → Found
-freeFrame c = foundIn (frames c) (lowest (isFree c) (frames c))
+-- the one choice of a free frame: document 02, "Seven", "promises one or the other by what it is asked"
+unfoldable pub freeFrame : End → List ℕ → Found
+freeFrame Lowest c = foundIn (frames c) (lowest (isFree c) (frames c))
+freeFrame Highest c = foundIn (frames c) (highest (isFree c) (frames c))
 
 -- how many frames are free
 unfoldable pub freeCount : List ℕ → ℕ

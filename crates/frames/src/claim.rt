@@ -1,4 +1,4 @@
-// What an entry of the table may claim, by which use byte, and what a search of the table finds.
+// What an entry of the table may claim, by which use byte, what a search of the table finds, and from which end it takes a free frame.
 use control::shadow::Region;
 use layout::control::HEAP;
 use layout::control::STACK;
@@ -18,6 +18,12 @@ pub enum Claim {
 pub enum Found {
     At(Frame),
     Nothing,
+}
+
+// Which free frame is taken: the one nearest to this end of the table.
+pub enum End {
+    Lowest,
+    Highest,
 }
 
 // The use byte of a region's frames.

@@ -11,6 +11,7 @@ use Rattle.refusal.proofs.Checks.{check-passed}
 use Rattle.control.proofs.Facts.{buffers-facts}
 use Rattle.control.specs.Buffers.{Buffers}
 use Rattle.frames.proofs.Entries.{EntryRange}
+use Rattle.frames.specs.declared.claim.End.the-variants.{Highest}
 use Rattle.frames.proofs.Free.{free-found}
 use Rattle.segments.specs.Kinds.{kindStore, kindStoreSpan}
 use Rattle.translate.specs.declared.place.NewCopy.{NewCopy}
@@ -54,7 +55,7 @@ module _ (s c p : List ℕ) (kind a n : ℕ) (h : Rights c) where
   stored (Allowed (Take t)) e =
       let u = take-place s c p kind a n e in
       let v = buffers-facts s c p (accepted s c p kind a n e refl .buffers) in
-      let free = free-found c (t .frame) (u .free) in
+      let free = free-found c Highest (t .frame) (u .free) in
       copied-right c (t .frame .0) (copyEntry t) (v .control) (free .below) (free .passes) (copy-range c kind a t u) refl h
 
 -- every call keeps the invariant of stack and heap

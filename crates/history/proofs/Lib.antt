@@ -19,3 +19,4 @@ pub mod Theorem
 pub mod FrameCount
 pub mod Heap
 pub mod Editions
+pub mod Listed

@@ -34,6 +34,7 @@ use Rattle路frames.specs.declared.claim.Found.the-variants.{Nothing}
 use Rattle路frames.proofs.Entries.{EntryRange, entry-same, entry-other}
 use Rattle路frames.proofs.Untouched.{frames-kept, invocations-kept, invocation-kept, buffers-valid-kept}
 use Rattle路frames.proofs.Claims.{holds-copy, copy-holds, claims-copy, claims-page, claims-one, claims-same, claims-other, free-claims, frame-found, frame-none, frame-taken, frame-kept}
+use Rattle路frames.specs.declared.claim.End.the-variants.{Highest}
 use Rattle路frames.proofs.Free.{free-found}
 use Rattle路segments.specs.Kinds.{isStore}
 use Rattle路translate.specs.declared.place.NewCopy.{NewCopy}
@@ -324,7 +325,7 @@ module _ {s : List 鈩晑 {b : Buffers} {r : Replay} (g : Good s b r) (kind a : 鈩
       (keep-stored g (indexOf a) (offsetOf a / pageSize) (x .frame .0) (offsetOf a % pageSize) bytes (i .below) (i .passes) (d .within)
       (omega (arith, d .present)))
   keep-data d (into-new {t} x) =
-      let i = free-found (b .control) (t .frame) (x .free) in
+      let i = free-found (b .control) Highest (t .frame) (x .free) in
       let page : LivePage s (t .account .0) (t .page .0) =
       rw (x .account, x .page) (record { known = d .account; entry = d .entry; present = omega (arith, d .present, d .some) }) in
       let k =

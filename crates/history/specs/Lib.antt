@@ -5,3 +5,4 @@ pub mod Claims
 pub mod Heap
 pub mod Records
 pub mod Editions
+pub mod Listed

@@ -17,6 +17,7 @@ use Rattle.refusal.proofs.Checks.{need-last}
 use Rattle.control.specs.Control.{frames, invocations, setPages, sizeOf}
 use Rattle.control.specs.declared.shadow.Region.the-variants.{Stack}
 use Rattle.frames.specs.Table.{isFree, freeFrame, freeCount, putFrameEntry}
+use Rattle.frames.specs.declared.claim.End.the-variants.{Lowest}
 use Rattle.frames.specs.declared.claim.Found.the-variants.{At}
 use Rattle.frames.proofs.Found.{first-at}
 use Rattle.frames.proofs.OnlyTable.{table-put, table-invocations}
@@ -46,7 +47,7 @@ module _ (size : ℕ) (p : List ℕ) (x : Start) (valid : roomValid size (length
 
   module _ (some : 1 ≤ framesIn size) where
     -- so the first is found
-    first-free : freeFrame bare ≡ At (record { 0 = 0 })
+    first-free : freeFrame Lowest bare ≡ At (record { 0 = 0 })
     unfolding freeFrame
     first-free =
         first-at (isFree bare) (frames bare) 0 (record { below = omega (arith, room); passes = free 0; before = λ j l. absurd (omega arith) })

@@ -19,6 +19,7 @@ use Rattle.frames.specs.declared.claim.Found.{Found}
 use Rattle.frames.specs.declared.claim.Found.the-variants.{At, Nothing}
 use Rattle.frames.proofs.Entries.{EntryRange}
 use Rattle.frames.proofs.Claims.{copy-holds, frame-taken}
+use Rattle.frames.specs.declared.claim.End.the-variants.{Highest}
 use Rattle.frames.proofs.Free.{free-found}
 use Rattle.segments.specs.Kinds.{kindLoadSpan, kindStoreSpan}
 use Rattle.translate.specs.Translate.{copyPlace, dataPlaceIn, dataPlace, regionPlaceIn, regionPlace, bufferPlace, placeIn}
@@ -37,7 +38,7 @@ use Rattle.access.specs.Stores.{Writable, placeInPool, copyEntry, takenControl,
 
 -- ---- the frame that was taken
 
--- what a store takes where f is the lowest free frame
+-- what a store takes where f is the free frame that copies take
 abbrev newCopy : ℕ → Frame → NewCopy
 newCopy a f = record { at = inFrame f (offsetOf a); frame = f; account = accountOf a; page = pageOf (offsetOf a) }
 
@@ -51,9 +52,9 @@ module _ (c : List ℕ) (a : ℕ) (f : Frame) where
   copy-range = record { usage = omega arith; tag = omega arith; account = omega arith; page = omega arith; zero = omega arith }
 
   -- so it is the frame of the page, which had none
-  taken-frame : controlValid c ≡ true → frameOf c (copyOf a) ≡ Nothing → freeFrame c ≡ At f → frameOf (takenControl c (newCopy a f)) (copyOf a) ≡ At f
+  taken-frame : controlValid c ≡ true → frameOf c (copyOf a) ≡ Nothing → freeFrame Highest c ≡ At f → frameOf (takenControl c (newCopy a f)) (copyOf a) ≡ At f
   taken-frame v none h =
-      let l : f .0 < frames c = free-found c f h .below in
+      let l : f .0 < frames c = free-found c Highest f h .below in
       frame-taken c (f .0) (copyEntry (newCopy a f)) copy-range (omega (arith, control-facts c v .size)) (copyOf a) none l copy-held
 
 -- ---- the place of a page
@@ -71,7 +72,7 @@ module _ (c : List ℕ) (a : ℕ) {q : Place} where
 
   module _ (v : controlValid c ≡ true) (at at′ : ℕ) where
     -- a page of account data that had no frame has the one that was taken for it
-    taken-again : frameOf c (copyOf a) ≡ Nothing → (x : Found) → freeFrame c ≡ x → copyPlace (accountOf a) (offsetOf a) x ≡ Allowed q
+    taken-again : frameOf c (copyOf a) ≡ Nothing → (x : Found) → freeFrame Highest c ≡ x → copyPlace (accountOf a) (offsetOf a) x ≡ Allowed q
         → dataPlace (preparedControl c q) kindLoadSpan (accountOf a) (offsetOf a) at′ ≡ Allowed (InPool (placeInPool q))
     unfolding dataPlace
     taken-again none (At f) h e = rw (← one-place e, taken-frame c a f v none h)
@@ -82,7 +83,7 @@ module _ (c : List ℕ) (a : ℕ) {q : Place} where
         → dataPlace (preparedControl c q) kindLoadSpan (accountOf a) (offsetOf a) at′ ≡ Allowed (InPool (placeInPool q))
     unfolding dataPlace
     data-again (At f) h e = rw (← one-place e, h)
-    data-again Nothing h e = taken-again h (freeFrame c) refl e
+    data-again Nothing h e = taken-again h (freeFrame Highest c) refl e
 
 -- ---- the place of a row's bytes
 

@@ -28,9 +28,10 @@ use Rattle.frames.specs.declared.claim.Found.{Found}
 use Rattle.frames.specs.declared.claim.Found.the-variants.{At, Nothing}
 use Rattle.frames.proofs.Entries.{EntryRange, entry-other, entry-same}
 use Rattle.frames.proofs.OnlyTable.{OnlyTable, table-same, table-put, table-then, table-frames, table-invocations, table-valid}
+use Rattle.frames.specs.declared.claim.End.the-variants.{Lowest}
 use Rattle.frames.proofs.Found.{First}
 use Rattle.frames.proofs.Claims.{unused, claims-holds, claims-page, free-claims}
-use Rattle.frames.proofs.Free.{free-some, free-found, free-count-taken}
+use Rattle.frames.proofs.Free.{free-some, free-first, free-count-taken}
 use Rattle.regions.specs.Resize.{pageAt, regionEntry, growIn, growOne, grown}
 use Rattle.regions.proofs.Pages.{page-below, page-one, usage-some, page-range, page-no-copy, entry-inside, free-ext, claims-ext}
 
@@ -65,8 +66,8 @@ pub record Took (r : Region) (q : Page) (w v : Buffers) : Type 0 where
 one-took : (r : Region) (q : Page) (w : Buffers) → 1 ≤ freeCount (w .control) → Took r q w (growOne r q w)
 unfolding growOne
 one-took r q w h =
-    let e : freeFrame (w .control) ≡ At (record { 0 = nextFree w }) = free-some (w .control) h in
-    record { first = free-found (w .control) (record { 0 = nextFree w }) e; control = rw e; pool = rw e }
+    let e : freeFrame Lowest (w .control) ≡ At (record { 0 = nextFree w }) = free-some (w .control) h in
+    record { first = free-first (w .control) (record { 0 = nextFree w }) e; control = rw e; pool = rw e }
 
 module _ {r : Region} {q : Page} {w v : Buffers} (t : Took r q w v) where
   -- another frame's entry is as it was
@@ -147,13 +148,13 @@ module _ (r : Region) (k : ℕ) (c p : List ℕ) where
   pub grown-only : (n : ℕ) → OnlyTable c (grown r k c p n .control)
   unfolding grown growOne
   grown-only zero = table-same c
-  grown-only (suc n) = table-then (grown-only n) (in-only r (pageAt r (k + n)) (grown r k c p n) (freeFrame (grown r k c p n .control)))
+  grown-only (suc n) = table-then (grown-only n) (in-only r (pageAt r (k + n)) (grown r k c p n) (freeFrame Lowest (grown r k c p n .control)))
 
   -- the pool keeps its length
   pub grown-pool : (n : ℕ) → length (grown r k c p n .pool) ≡ length p
   unfolding grown growOne
   grown-pool zero = refl
-  grown-pool (suc n) = in-pool r (pageAt r (k + n)) (grown r k c p n) (freeFrame (grown r k c p n .control)) ∙ grown-pool n
+  grown-pool (suc n) = in-pool r (pageAt r (k + n)) (grown r k c p n) (freeFrame Lowest (grown r k c p n .control)) ∙ grown-pool n
 
   module _ (ok : controlValid c ≡ true) where
     -- the control block stays valid

@@ -23,6 +23,7 @@ use Rattle.pages.specs.Pages.{frameStart}
 use Rattle.frames.specs.Table.{frameEntryOf, putFrameEntry, freeFrameEntry, usageOf, frameOf, freeFrame, freeCount, isFound}
 use Rattle.frames.specs.declared.table.FrameEntry.{FrameEntry}
 use Rattle.frames.specs.declared.claim.Claim.the-variants.{Anonymous}
+use Rattle.frames.specs.declared.claim.End.the-variants.{Lowest}
 use Rattle.frames.specs.declared.claim.Found.{Found}
 use Rattle.frames.specs.declared.claim.Found.the-variants.{At, Nothing}
 
@@ -48,7 +49,7 @@ growIn r q w Nothing = w
 
 -- "Growing takes the lowest free frames": one page more
 unfoldable pub growOne : Region → Page → Buffers → Buffers
-growOne r q w = growIn r q w (freeFrame (w .control))
+growOne r q w = growIn r q w (freeFrame Lowest (w .control))
 
 -- the first n new pages, from the k-th on, each in the lowest free frame
 unfoldable pub grown : Region → ℕ → List ℕ → List ℕ → ℕ → Buffers

@@ -4,7 +4,8 @@ use control::header::invocation_count;
 use control::shadow::Region;
 use control::shadow::set_pages;
 use frame_search::finding::has_free;
-use frame_search::finding::lowest_free;
+use frame_search::finding::next_free;
+use frames::claim::End;
 use frames::claim::usage_of;
 use frames::table::FrameEntry;
 use frames::table::put_frame_entry;
@@ -72,7 +73,7 @@ fn take_pages(c: &mut [u8], pool: &mut [u8], r: Region, size: usize, pages: usiz
     let mut at = 0;
     let mut k = size;
     while k < pages {
-        at = lowest_free(c, at, frames);
+        at = next_free(c, End::Lowest, at, frames);
         take_page(c, pool, Frame(at as u16), r, page_at(r, k), depth);
         k += 1;
     }

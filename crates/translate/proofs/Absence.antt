@@ -19,6 +19,7 @@ use Rattle.snapshot.specs.Header.{accounts}
 use Rattle.control.specs.Control.{depth}
 use Rattle.control.specs.declared.shadow.Region.the-variants as region
 use Rattle.frames.specs.Table.{frameEntryOf, frameOf, freeFrame}
+use Rattle.frames.specs.declared.claim.End.the-variants.{Highest}
 use Rattle.frames.specs.declared.claim.Found.{Found}
 use Rattle.frames.specs.declared.claim.Found.the-variants.{At, Nothing}
 use Rattle.segments.specs.Kinds.{isStore}
@@ -57,7 +58,7 @@ copy-there q Nothing = refl
 
 data-there : (c : List ℕ) (q : Request) (at : ℕ) (x : Found) → absent (dataPlaceIn c (q .kind) (record { 0 = q .index }) (q .offset) at x) ≡ false
 data-there c q at (At f) = refl
-data-there c q at Nothing = by-test (isStore (q .kind)) (λ e. rw e (copy-there q (freeFrame c))) (λ e. rw e)
+data-there c q at Nothing = by-test (isStore (q .kind)) (λ e. rw e (copy-there q (freeFrame Highest c))) (λ e. rw e)
 
 region-there : (c : List ℕ) (q : Request) (x : Found) → absent (regionPlaceIn c (q .kind) (q .offset) x) ≡ false
 region-there c q (At f) =

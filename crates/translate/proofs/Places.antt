@@ -13,6 +13,7 @@ use Rattle.control.specs.declared.shadow.Region.{Region}
 use Rattle.control.proofs.Facts.{ControlFacts, BuffersFacts, control-facts, buffers-facts}
 use Rattle.frames.specs.Table.{entryEnd}
 use Rattle.frames.proofs.Claims.{frame-found}
+use Rattle.frames.specs.declared.claim.End.the-variants.{Highest}
 use Rattle.frames.proofs.Free.{free-found}
 use Rattle.translate.specs.Fits.{Fits}
 use Rattle.translate.specs.Translate.{translateOf}
@@ -40,7 +41,7 @@ module _ {s c p : List ℕ} (b : BuffersFacts s c p) where
       omega (arith, d .within, x .place, frame-fits (x .frame .0) (frame-found c _ (x .frame) (x .held) .below))
   data-fits {a} {n} d (in-original x) = rw (x .place) (original-fits s (accountOf a) (offsetOf a) n (b .snapshot) (d .entry) (d .some) (d .present))
   data-fits d (taking {t} x) =
-      let h = frame-fits (t .frame .0) (free-found c (t .frame) (x .free) .below) in (
+      let h = frame-fits (t .frame .0) (free-found c Highest (t .frame) (x .free) .below) in (
         omega (arith, d .within, x .place, h),
         record {
           snapshot = b .snapshot;

@@ -27,6 +27,7 @@ use Rattle.pages.specs.declared.Frame.{Frame}
 use Rattle.frames.specs.Table.{frameEntryOf, frameOf, freeFrame}
 use Rattle.frames.specs.declared.claim.Claim.{Claim}
 use Rattle.frames.specs.declared.claim.Claim.the-variants.{Copy, Anonymous}
+use Rattle.frames.specs.declared.claim.End.the-variants.{Highest}
 use Rattle.frames.specs.declared.claim.Found.{Found}
 use Rattle.frames.specs.declared.claim.Found.the-variants.{At, Nothing}
 use Rattle.segments.specs.Kinds.{isStore}
@@ -73,7 +74,7 @@ pub record Taken (c : List ℕ) (kind a : ℕ) (t : NewCopy) : Type 0 where
   pub account : t .account ≡ accountOf a
   pub page : t .page ≡ pageOf (offsetOf a)
   pub none : frameOf c (Copy (t .account) (t .page)) ≡ Nothing
-  pub free : freeFrame c ≡ At (t .frame)
+  pub free : freeFrame Highest c ≡ At (t .frame)
   pub place : t .at ≡ inFrame (t .frame) (offsetOf a)
 
 -- a store needs a frame for the account's page, and none is free
@@ -81,7 +82,7 @@ pub record Lacking (c : List ℕ) (kind a : ℕ) : Type 0 where
   pub store : isStore kind ≡ true
   pub type : typeOf a ≡ 3
   pub none : frameOf c (copyOf a) ≡ Nothing
-  pub full : freeFrame c ≡ Nothing
+  pub full : freeFrame Highest c ≡ Nothing
 
 -- the four answers
 pub data DataAnswer (s c : List ℕ) (kind a : ℕ) : Translation → Type 0 where
@@ -92,7 +93,7 @@ pub data DataAnswer (s c : List ℕ) (kind a : ℕ) : Translation → Type 0 whe
 
 module _ (s c : List ℕ) (kind a : ℕ) (type : typeOf a ≡ 3) where
   -- for a store to a page without a frame, by the free frame that is found
-  new-page : isStore kind ≡ true → frameOf c (copyOf a) ≡ Nothing → (x : Found) → freeFrame c ≡ x
+  new-page : isStore kind ≡ true → frameOf c (copyOf a) ≡ Nothing → (x : Found) → freeFrame Highest c ≡ x
       → DataAnswer s c kind a (copyPlace (accountOf a) (offsetOf a) x)
   new-page store none (At f) e =
       taking (record { store = store; type = type; account = refl; page = refl; none = none; free = e; place = refl })
@@ -103,7 +104,7 @@ module _ (s c : List ℕ) (kind a : ℕ) (type : typeOf a ≡ 3) where
       → DataAnswer s c kind a (dataPlaceIn c kind (accountOf a) (offsetOf a) (entryOf s (accountOf a) .start + offsetOf a) x)
   page-in (At f) e = in-copy (record { frame = f; held = e; place = refl })
   page-in Nothing e =
-      by-test (isStore kind) (λ k. rw k (new-page k e (freeFrame c) refl))
+      by-test (isStore kind) (λ k. rw k (new-page k e (freeFrame Highest c) refl))
       (λ k. rw k (in-original (record { load = k; none = e; place = refl })))
 
   -- it is one of them

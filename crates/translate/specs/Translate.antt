@@ -22,6 +22,7 @@ use Rattle.control.specs.declared.shadow.Region.the-variants as region
 use Rattle.pages.specs.Pages.{inFrame, pageOf}
 use Rattle.frames.specs.Table.{frameEntryOf, frameOf, freeFrame}
 use Rattle.frames.specs.declared.claim.Claim.the-variants.{Copy, Anonymous}
+use Rattle.frames.specs.declared.claim.End.the-variants.{Highest}
 use Rattle.frames.specs.declared.claim.Found.{Found}
 use Rattle.frames.specs.declared.claim.Found.the-variants.{At, Nothing}
 use Rattle.segments.specs.Kinds.{isStore, requestValid}
@@ -166,15 +167,16 @@ soughtOf s c p fetch store q =
 
 -- ---- the place, once every byte is present
 
--- "An accepted store to an account page without a frame takes the lowest free frame"; "last 8"
+-- "An accepted store to an account page without a frame takes" a free frame; "last 8"
 abbrev pub copyPlace : Account → ℕ → Found → Translation
 copyPlace a offset (At f) = Allowed (Take (record { at = inFrame f offset; frame = f; account = a; page = pageOf offset }))
 copyPlace a offset Nothing = Refused NoFrame
 
--- "A page with a frame is stored to in that frame. Later loads in type 3 and views read the frame"; without one the original is read
+-- "A page with a frame is stored to in that frame. Later loads in type 3 and views read the frame"; without one the original is read, and
+-- document 02, "Seven": "Account copies shall take the highest free frame"
 abbrev pub dataPlaceIn : List ℕ → ℕ → Account → ℕ → ℕ → Found → Translation
 dataPlaceIn c kind a offset at (At f) = Allowed (InPool (inFrame f offset))
-dataPlaceIn c kind a offset at Nothing = pick (isStore kind) (copyPlace a offset (freeFrame c)) (Allowed (InSnapshot at))
+dataPlaceIn c kind a offset at Nothing = pick (isStore kind) (copyPlace a offset (freeFrame Highest c)) (Allowed (InSnapshot at))
 
 -- the same, with the frame that the table names
 unfoldable pub dataPlace : List ℕ → ℕ → Account → ℕ → ℕ → Translation

@@ -8,6 +8,7 @@ use control::shadow::Region;
 use frame_search::finding::free_frame;
 use frame_search::finding::lowest_copy;
 use frame_search::finding::lowest_page;
+use frames::claim::End;
 use frames::claim::Found;
 use frames::table::frame_entry;
 use pages::Frame;
@@ -22,14 +23,15 @@ ghost use Prim.Native.Nat.{_<_};
 ghost use Rattle.layout.specs.Address.{offsets};
 ghost use Rattle.control.specs.Control.{controlValid};
 ghost use Rattle.frames.specs.Table.{freeFrame};
+ghost use Rattle.frames.specs.declared.claim.End.the-variants.{Highest};
 ghost use Rattle.translate.specs.Translate.{copyPlace, dataPlace, regionPlace};
 
-// A frame that would be taken for a copy of the page, or that there is none.
+// The frame that would be taken for a copy of the page, the highest that is free, or that there is none.
 fn copy_place(c: &[u8], a: Account, offset: usize) -> Translation
     requires { ⌜ (controlValid (now c) ≡ true) × (offset < offsets) ⌝ }
-    ensures { λ r. ⌜ r ≡ copyPlace a offset (freeFrame (now (c .entry))) ⌝ }
+    ensures { λ r. ⌜ r ≡ copyPlace a offset (freeFrame Highest (now (c .entry))) ⌝ }
 {
-    match free_frame(c) {
+    match free_frame(c, End::Highest) {
         Found::At(f) => Translation::Allowed(Place::Take(NewCopy {
             at: in_frame(f, offset),
             frame: f,

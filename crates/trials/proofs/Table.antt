@@ -5,7 +5,7 @@ use mathlib.Core.Logic.{⊎-elim}
 use lib.Dec.{T}
 use Rattle.words.specs.Words.{wordAt, wordBytes, zeros}
 use Rattle.choice.proofs.Tests.{by-test}
-use Rattle.choice.specs.Search.{seek}
+use Rattle.choice.specs.Search.{seek, highest}
 use Rattle.refusal.specs.Checks.{need, _then_}
 use Rattle.address.specs.Address.{splitOf}
 use Rattle.snapshot.specs.Header.{headerOf, countsValid, offsetsValid, totalValid, snapshotValid}
@@ -21,7 +21,7 @@ use Rattle.trials.specs.Trials.{Trial, trials, splitGives, passes, allPa
 
 -- the trials marked P
 pub table : T (allPass trials)
-unfolding wordAt wordBytes zeros seek need _then_ splitOf headerOf countsValid offsetsValid totalValid snapshotValid entryOf bodyValid validWithin entryValid editionKnown controlValid invocationOf invocationBytes currentValid buffersValid controlReady frameField frameEntryBytes claims isFree foundIn frameOf freeFrame requestValid aligned within rules rowOf segmentOf permitted firstChecks rowChecks concernedValid owned running endOf startOf sourceOf rowCheck dataPlace regionPlace placeIn placeOf inRow inSegment translateOf entryBytes snapshotHeader snapshotWith controlWith plain plainOlder onePage trials splitGives passes allPass
+unfolding wordAt wordBytes zeros seek need _then_ splitOf headerOf countsValid offsetsValid totalValid snapshotValid entryOf bodyValid validWithin entryValid editionKnown controlValid invocationOf invocationBytes currentValid buffersValid controlReady frameField frameEntryBytes claims isFree foundIn frameOf highest freeFrame requestValid aligned within rules rowOf segmentOf permitted firstChecks rowChecks concernedValid owned running endOf startOf sourceOf rowCheck dataPlace regionPlace placeIn placeOf inRow inSegment translateOf entryBytes snapshotHeader snapshotWith controlWith plain plainOlder onePage trials splitGives passes allPass
 table = tt
 
 -- each row of a table that passes

@@ -33,7 +33,7 @@ pub const FORMS: [Form; 22] = [
     form("heap", "N", "NUMBER", "gives the heap N pages"),
     form("view", "ACCOUNT PAGE", "NUMBER [BUFFER [START [LENGTH]]]", "where an account's page lies, and its first bytes"),
     form("list", "", "NUMBER [PAGES]", "the entries of the change list"),
-    form("map", "", "MARKS", "the pool's frames and what lies in them"),
+    form("map", "", "MARKS", "the pool's frames, what lies in them, and the longest free run"),
     form("poke", "BUFFER OFFSET BYTES", "", "writes into the snapshot, control or pool behind the library's back"),
     form("save-control", "FILE", "", "writes the control block to a file, for show and resume"),
     form("save-pool", "FILE", "", "writes the pool to a file, for show and resume"),

@@ -68,14 +68,14 @@ pub fn inspected() -> Vec<u8> {
 pub fn booked() -> Vec<u8> {
     let mut frames = [UNUSED; 16];
     frames[0] = entry(STACK, 0, 0, 4_095);
-    frames[1] = entry(COPY, 0, 1, 1);
+    frames[15] = entry(COPY, 0, 1, 1);
     alone(1, 0, &frames)
 }
 
-/// The pool of those 16 frames: page 1 of the slots with slot 4100 booked in frame 1, the rest zeros.
+/// The pool of those 16 frames: page 1 of the slots with slot 4100 booked in the last frame, the rest zeros.
 pub fn booked_pool() -> Vec<u8> {
-    let mut pool = [&[0; PAGE], &slots()[PAGE..]].concat();
-    pool[PAGE + 4] = 0x11;
+    let mut pool = [&[0; 15 * PAGE], &slots()[PAGE..]].concat();
+    pool[15 * PAGE + 4] = 0x11;
     pool.resize(16 * PAGE, 0);
     pool
 }

@@ -33,9 +33,9 @@ fn statements() -> Vec<Case> {
 fn every_statement() -> Case {
     let mut page = booked_slots()[PAGE..].to_vec();
     page[8..10].copy_from_slice(&[0x22, 0x33]);
-    let begun = [entry(STACK, 0, 0, 4_095), entry(COPY, 0, 1, 1)];
-    let grown = [entry(STACK, 0, 0, 4_094), entry(HEAP, 0, 0, 0), entry(HEAP, 0, 0, 1), entry(HEAP, 1, 0, 2)];
-    let frames = [begun.as_slice(), &grown].concat();
+    let stack = [entry(STACK, 0, 0, 4_095), entry(STACK, 0, 0, 4_094)];
+    let heap = [entry(HEAP, 0, 0, 0), entry(HEAP, 0, 0, 1), entry(HEAP, 1, 0, 2)];
+    let frames = [stack.as_slice(), &heap, &[entry(COPY, 0, 1, 1)]].concat();
     Case::script("script", mill(), include_str!("../inputs/script.txt"))
         .leaves("kept-control", alone(2, 3, &frames))
         .leaves("kept-list", list(&[(1, 1, &page)]))

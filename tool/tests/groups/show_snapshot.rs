@@ -45,7 +45,7 @@ fn kinds() -> Vec<Case> {
         said("show-pool-prefix", "pool", &[0; PAGE]),
         said("show-uneven-pool", "pool", &[0; 5_000]),
         // from the frame of the booking on: words that are far from every rule
-        said("show-wrong-prefix", "snapshot", &booked_pool()[PAGE..]),
+        said("show-wrong-prefix", "snapshot", &booked_pool()[15 * PAGE..]),
         said("show-unknown-prefix", "script", b"begin 0\n"),
     ]
 }

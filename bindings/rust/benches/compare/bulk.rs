@@ -36,7 +36,7 @@ fn forget(control: &mut [u8], frame: usize) {
     control[control_len(frame)..control_len(frame + 1)].fill(0);
 }
 
-/// A row for a store to a page without a copy, in a world where a frame is the lowest free one.
+/// A row for a store to a page without a copy, in a world where a frame is the highest free one.
 fn copy_row(report: &mut Report, name: &str, world: &mut World, frame: usize) {
     let (address, size) = (slot(PAGE * 1023), 8);
     report.row(
@@ -54,9 +54,10 @@ fn copy_row(report: &mut Report, name: &str, world: &mut World, frame: usize) {
 }
 
 pub fn copies(report: &mut Report) {
-    copy_row(report, "store that takes a copy", &mut World::begun(64), 0);
-    copy_row(report, "store that takes a copy, 1,024 frames", &mut World::begun(1024), 0);
+    copy_row(report, "store that takes a copy", &mut World::begun(64), 63);
+    copy_row(report, "store that takes a copy, 1,024 frames", &mut World::begun(1024), 1023);
     copy_row(report, "store that takes a copy, last of 1,024 frames free", &mut World::begun(1024).copied(0..1023), 1023);
+    copy_row(report, "store that takes a copy, first of 1,024 frames free", &mut World::begun(1024).stored(0..1023), 0);
 }
 
 pub fn resizes(report: &mut Report) {
@@ -155,10 +156,10 @@ pub fn against_copy(report: &mut Report) {
         "store that takes a copy",
         &mut World::begun(64),
         |w| {
-            forget(&mut w.c, 0);
+            forget(&mut w.c, 63);
             library::store(&w.s, &mut w.c, &mut w.p, slot(0), 8, 5)
         },
-        |w| w.p[..PAGE].copy_from_slice(&w.s[w.s.len() - PAGE * SLOTS_PAGES..][..PAGE]),
+        |w| w.p[PAGE * 63..].copy_from_slice(&w.s[w.s.len() - PAGE * SLOTS_PAGES..][..PAGE]),
     );
     for pages in [64, 1024] {
         lists_against_copy(report, pages);

@@ -2,7 +2,7 @@
 
 use crate::plain_headers::{account, vm, Vm, ENTRY, MAX_DATA, PAGE, RECORD, RECORDS};
 use crate::plain_refused::Refused;
-use crate::plain_search::{copy_frame, free_frame, region_frame, tag};
+use crate::plain_search::{copy_frame, highest_free, region_frame, tag};
 
 pub const LOAD: u8 = 0;
 pub const STORE: u8 = 1;
@@ -75,7 +75,7 @@ fn in_data<const KIND: u8>(s: &[u8], c: &[u8], v: &Vm, index: usize, offset: usi
     let page = offset / PAGE;
     match copy_frame(c, index, page) {
         Some(frame) => Ok(Place::Pool(PAGE * frame + offset % PAGE)),
-        None if stores(KIND) => Ok(Place::Take { frame: free_frame(c).ok_or(8)?, account: index, page }),
+        None if stores(KIND) => Ok(Place::Take { frame: highest_free(c).ok_or(8)?, account: index, page }),
         None => Ok(Place::Snapshot(a.data + offset)),
     }
 }

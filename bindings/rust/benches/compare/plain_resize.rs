@@ -1,7 +1,7 @@
 //! Resizing the stack or the heap.
 
 use crate::plain_headers::{number, vm, MAX_DATA, PAGE, TABLE};
-use crate::plain_search::{enough_free, free_frame, region_frame, tag, Entry};
+use crate::plain_search::{enough_free, lowest_free, region_frame, tag, Entry};
 use crate::plain_words::put_u16;
 use std::ops::Range;
 
@@ -40,7 +40,7 @@ pub fn take(c: &mut [u8], p: &mut [u8], frame: usize, region: u8, depth: usize, 
 #[inline(always)]
 fn grow(c: &mut [u8], p: &mut [u8], region: u8, depth: usize, pages: Range<usize>) -> Result<(), u8> {
     if pages.len() == 1 {
-        let frame = free_frame(c).ok_or(8)?;
+        let frame = lowest_free(c).ok_or(8)?;
         take(c, p, frame, region, depth, pages.start);
         return Ok(());
     }

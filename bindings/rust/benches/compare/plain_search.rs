@@ -1,6 +1,6 @@
-//! Searches of the frame table. An entry is one number: use, tag, account, page, zero from the low end on. The first entries are tested one
-//! by one, since most programs use few frames; the others in groups without a branch inside, which compile to vector instructions, and out
-//! of line, so that a call that ends at the first ones saves fewer registers.
+//! Searches of the frame table. An entry is one number: use, tag, account, page, zero from the low end on. The entries that a search starts
+//! with are tested one by one, since most programs use few frames; the others in groups without a branch inside, which compile to vector
+//! instructions, and out of line, so that a call that ends at the first ones saves fewer registers.
 
 use crate::plain_headers::TABLE;
 
@@ -27,24 +27,58 @@ fn lowest(entries: &[Entry], mask: u64, wanted: u64) -> Option<usize> {
     entries.iter().position(|e| word(e) & mask == wanted)
 }
 
-/// As `lowest`, in groups. A masked entry is below 2^63, so its difference less one has the top bit set only where there is no difference.
+/// The highest of some entries that is wanted under a mask.
+#[inline(always)]
+fn highest(entries: &[Entry], mask: u64, wanted: u64) -> Option<usize> {
+    entries.iter().rposition(|e| word(e) & mask == wanted)
+}
+
+/// Whether one of a group is wanted under a mask. A masked entry is below 2^63, so its difference less one has the top bit set only where there
+/// is no difference.
+#[inline(always)]
+fn any(group: &[Entry; GROUP], mask: u64, wanted: u64) -> bool {
+    group.iter().fold(0, |any, e| any | ((word(e) & mask) ^ wanted).wrapping_sub(1)) >> 63 != 0
+}
+
+/// As `lowest`, in groups.
 #[inline(always)]
 fn lowest_in_groups(entries: &[Entry], mask: u64, wanted: u64) -> Option<usize> {
     let (groups, rest) = entries.as_chunks::<GROUP>();
     for (i, group) in groups.iter().enumerate() {
-        let any = group.iter().fold(0, |any, e| any | ((word(e) & mask) ^ wanted).wrapping_sub(1));
-        if any >> 63 != 0 {
+        if any(group, mask, wanted) {
             return lowest(group, mask, wanted).map(|found| GROUP * i + found);
         }
     }
     lowest(rest, mask, wanted).map(|found| GROUP * groups.len() + found)
 }
 
+/// As `highest`, in groups that end with the last entry.
 #[inline(always)]
-pub fn free_frame(c: &[u8]) -> Option<usize> {
+fn highest_in_groups(entries: &[Entry], mask: u64, wanted: u64) -> Option<usize> {
+    let (rest, groups) = entries.as_rchunks::<GROUP>();
+    for (i, group) in groups.iter().enumerate().rev() {
+        if any(group, mask, wanted) {
+            return highest(group, mask, wanted).map(|found| rest.len() + GROUP * i + found);
+        }
+    }
+    highest(rest, mask, wanted)
+}
+
+/// The free frame for a stack or heap page.
+#[inline(always)]
+pub fn lowest_free(c: &[u8]) -> Option<usize> {
     match table(c).split_first_chunk::<GROUP>() {
         Some((first, after)) => lowest(first, USE, 0).or_else(|| Some(GROUP + lowest_in_groups(after, USE, 0)?)),
         None => lowest(table(c), USE, 0),
+    }
+}
+
+/// The free frame for a copy.
+#[inline(always)]
+pub fn highest_free(c: &[u8]) -> Option<usize> {
+    match table(c).split_last_chunk::<GROUP>() {
+        Some((before, last)) => highest(last, USE, 0).map(|found| before.len() + found).or_else(|| highest_in_groups(before, USE, 0)),
+        None => highest(table(c), USE, 0),
     }
 }
 

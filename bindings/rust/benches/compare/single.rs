@@ -37,6 +37,7 @@ pub fn loads(report: &mut Report) {
     load_row(report, "load 8, account, copy in frame 4", &mut small, slot(8), 8);
     load_row(report, "load 1, account, copy in frame 4", &mut small, slot(9), 1);
     load_row(report, "load 8, account, copy in frame 35 of 64", &mut small, slot(PAGE * 31), 8);
+    load_row(report, "load 8, account, only copy, in the last of 64 frames", &mut World::begun(64).grown(2).stored(0..1), slot(8), 8);
     load_row(report, "load 8, account, no copy, 64 frames", &mut small, slot(PAGE * 40), 8);
     let mut large = World::begun(1024).copied(0..1024);
     load_row(report, "load 8, account, copy in frame 0 of 1,024", &mut large, slot(0), 8);

@@ -2,6 +2,7 @@
 
 use crate::library;
 use crate::plain_words::{put_u16, put_u32};
+use hekthumar::layout::FRAME_ENTRY;
 use hekthumar::{control_len, pool_len, Edition};
 
 pub const SLOTS_PAGES: usize = 1024;
@@ -10,6 +11,8 @@ const CODE: usize = 65_536;
 const ACCOUNTS: usize = 2;
 const CONTEXTS: usize = 4;
 const TRANSACTION: usize = 4096;
+/// A use that no frame is taken from.
+const NOBODYS: u8 = 255;
 
 /// The three buffers.
 #[derive(Clone, PartialEq)]
@@ -60,12 +63,27 @@ impl World {
         World::begun_of(Edition::Newer, frames)
     }
 
-    /// Takes copies of the slots' pages, in this order.
-    pub fn copied(mut self, pages: impl Iterator<Item = usize>) -> World {
+    /// Stores to the slots' pages, in this order: the first copy is in the highest free frame.
+    pub fn stored(mut self, pages: impl Iterator<Item = usize>) -> World {
         for page in pages {
             assert_eq!(library::store(&self.s, &mut self.c, &mut self.p, slot(PAGE * page), 8, page as u64).number, 0);
         }
         self
+    }
+
+    /// Takes copies of the slots' pages, the first in the lowest free frame and each other one behind it. So the last page is stored to first,
+    /// while the frames behind are in nobody's use.
+    pub fn copied(mut self, pages: impl Iterator<Item = usize>) -> World {
+        let pages: Vec<usize> = pages.collect();
+        let held = self.c[control_len(0)..].chunks_exact(FRAME_ENTRY).take_while(|entry| entry[0] != 0).count();
+        let behind = control_len(held + pages.len());
+        self.c[behind..].fill(NOBODYS);
+        let mut world = self.stored(pages.iter().rev().copied());
+        world.c[behind..].fill(0);
+        let page = |entry: &[u8]| usize::from(u16::from_le_bytes([entry[4], entry[5]]));
+        let taken = world.c[control_len(held)..behind].chunks_exact(FRAME_ENTRY).map(page);
+        assert!(taken.eq(pages), "a copy took another frame than the highest free one");
+        world
     }
 
     /// Grows the stack and the heap.

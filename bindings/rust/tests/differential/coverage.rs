@@ -10,6 +10,7 @@ use crate::interface::{record_call, Answer, Call, KINDS, NAMES};
 use crate::model::Why;
 use crate::record::Shape;
 use crate::returns::Returns;
+use crate::takings::Takings;
 
 pub const NUMBERS: usize = 15;
 
@@ -74,6 +75,7 @@ pub struct Coverage {
     pub discriminants: Discriminants,
     pub editions: Editions,
     pub returns: Returns,
+    pub takings: Takings,
     pub histories: u64,
     pub calls: u64,
 }
@@ -114,6 +116,7 @@ impl Coverage {
         faults.extend(self.discriminants.faults());
         faults.extend(self.editions.faults());
         faults.extend(self.returns.faults());
+        faults.extend(self.takings.faults());
         faults
     }
 
@@ -136,5 +139,6 @@ impl Coverage {
         self.discriminants.print();
         self.editions.print();
         self.returns.print();
+        self.takings.print();
     }
 }

@@ -94,7 +94,7 @@ fn of_a_value_that_ends_too_far() {
     }
 }
 
-/// A write told 14 takes no frame: the next copy is in the lowest one, and the list is empty until then.
+/// A write told 14 takes no frame: the next copy is in the last one, and the list is empty until then.
 #[test]
 fn takes_no_frame() {
     let mut world = begun();

@@ -138,10 +138,10 @@ fn the_older_fetches_account_data() {
     let place = |at, place| Answer::Place(Place { at, frame: 0, account: 0, page: 0, place, number: 0 });
     let translated = |offset| Call::Translate { kind: 2, address: at + offset, length: 4 };
     expect_answer(&mut world, translated(8), place(data_at + 8, 1));
-    // A store on page 0: its copy is frame 1, and page 1 keeps its original.
+    // A store on page 0: its copy is the last frame, and page 1 keeps its original.
     expect(&mut world, store(at + 9, 1, 0xAA), 0);
     fetched(&mut world, at + 8, 4, 0x0B0A_AA08);
-    expect_answer(&mut world, translated(8), place(4096 + 8, 4));
+    expect_answer(&mut world, translated(8), place(3 * 4096 + 8, 4));
     expect_answer(&mut world, translated(4096), place(data_at + 4096, 1));
     // A copy has a whole frame, and still no more bytes are present.
     expect(&mut world, store(at + 5999, 1, 1), 0);

@@ -14,6 +14,7 @@ use crate::random::Random;
 use crate::record_calls;
 use crate::replay::{Replay, Slip};
 use crate::returns;
+use crate::takings;
 use crate::world::{self, Size};
 
 /// Which history, and which planted mistake.
@@ -113,6 +114,7 @@ impl Run<'_> {
         let case = returns::case(&call, &self.library, !self.is_replayed());
         let met = editions::met(&call, &self.library);
         let discriminant = discriminants::met(&call, &mut self.library);
+        let uses = self.library.uses();
         let given = library::run(&mut self.library, &mut by_library);
         let (expected, why) = model::run(&mut self.model, &mut by_model, self.plan.bug);
         let difference = buffers(&self.library, &by_library).first_difference(buffers(&self.model, &by_model));
@@ -126,6 +128,7 @@ impl Run<'_> {
         self.coverage.returns.record(case, &given, why);
         self.coverage.editions.record(met, why);
         self.coverage.discriminants.record(discriminant, why);
+        self.coverage.takings.record(takings::case(&call, &given, &uses, &self.library));
         let right = self.replayed(&by_library, &given).and_then(|()| self.reads_back(&call, &given));
         self.calls += 1;
         right.map_err(|text| self.place(&format!("{}\n{text}", call.describe())))

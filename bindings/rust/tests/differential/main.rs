@@ -32,6 +32,8 @@ mod replay;
 mod return_trials;
 mod returns;
 mod tables;
+mod takings;
+mod top_trials;
 mod trials;
 mod world;
 

@@ -5,6 +5,7 @@ mod begin;
 mod bug;
 mod control;
 mod edition;
+mod frames;
 mod invocation;
 mod list;
 mod presence;
@@ -148,7 +149,7 @@ fn split(address: u64, bug: Option<Bug>) -> Result<Fields, Why> {
 fn translate(vm: &Vm, kind: u8, address: u64, length: usize) -> Result<Place, Refusal> {
     match vm.translate(Kind::from_code(kind), address, length) {
         Err(refusal) if vm.has(Bug::TranslationLosesDistance) => Err(refusal.why.into()),
-        answer => answer.map(place),
+        answer => answer.map(|spot| place(vm.named(spot))),
     }
 }
 

@@ -88,12 +88,13 @@ pub fn refused(shape: Shape, number: u8, distance: u16) -> Answer {
     Answer::Read(ReadAnswer { record, distance, number })
 }
 
-/// A copy of page 0 in frame 0 that holds these bytes from this offset on.
+/// A copy of page 0 in the last of four frames that holds these bytes from this offset on.
 pub fn copied(before: &World, offset: usize, bytes: &[u8]) -> World {
     let mut after = before.clone();
-    after.control[TABLE_AT..TABLE_AT + FRAME_ENTRY].copy_from_slice(&[1, 0, 5, 0, 0, 0, 0, 0]);
-    (0..4096).for_each(|place| after.pool[place] = original(place));
-    after.pool[offset..offset + bytes.len()].copy_from_slice(bytes);
+    after.control[TABLE_AT + FRAME_ENTRY * 3..].copy_from_slice(&[1, 0, 5, 0, 0, 0, 0, 0]);
+    let page = &mut after.pool[4096 * 3..];
+    (0..4096).for_each(|place| page[place] = original(place));
+    page[offset..offset + bytes.len()].copy_from_slice(bytes);
     after
 }
 

@@ -79,7 +79,7 @@ fn taken(order: impl Iterator<Item = usize>) {
     both.resize(2, 18);
     both.resize(3, 14);
     both.give(Call::Return { registers: Bytes(vec![0; 256]) });
-    // The last heap page that the callee left has its frame behind all copies.
+    // The last heap page that the callee left has its frame behind those of all stack pages, before those of all copies.
     both.give(Call::Store { address: 0x0700_0000_D000, size: 8, value: 9 });
     for pages in [3, 1, 0] {
         both.resize(2, pages);
@@ -136,7 +136,7 @@ fn the_key_under_other_uses() {
     let mut both = Both(world.clone(), world);
     both.give(Call::BeginPages { program: 0, edition: NEWER, pages: 0 });
     both.store(7);
-    let copy: Vec<u8> = both.0.control[TABLE_AT..][..FRAME_ENTRY].to_vec();
+    let copy: Vec<u8> = both.0.control[TABLE_AT + FRAME_ENTRY * (FRAMES - 1)..].to_vec();
     for frame in 0..FRAMES {
         let mut entry = copy.clone();
         entry[0] = if frame == FRAMES - 3 { 1 } else { [0, 2, 3, 4][frame % 4] };

@@ -218,9 +218,14 @@ impl World {
         self.control.len().saturating_sub(TABLE_AT) / FRAME_ENTRY
     }
 
+    /// The use of each frame.
+    pub fn uses(&self) -> Vec<u8> {
+        self.control.get(TABLE_AT..).unwrap_or(&[]).chunks_exact(FRAME_ENTRY).map(|entry| entry[0]).collect()
+    }
+
     /// Entries of the frame table with this use.
     pub fn frames_used_as(&self, usage: u8) -> usize {
-        (0..self.frames()).filter(|frame| self.control[TABLE_AT + FRAME_ENTRY * frame] == usage).count()
+        self.uses().into_iter().filter(|other| *other == usage).count()
     }
 }
 

@@ -214,7 +214,7 @@ impl Vm<'_> {
         })
     }
 
-    /// "Later loads in type 3 and views read the frame"; a store without a frame takes the lowest free one.
+    /// "Later loads in type 3 and views read the frame"; a store without a frame takes the highest free one.
     fn spot_in_data(&self, access: &Access, data_at: usize) -> Result<Spot, Why> {
         let (account, page, within) = (access.index, access.page(), access.offset % PAGE);
         let store = access.kind.is_store();
@@ -233,9 +233,7 @@ impl Vm<'_> {
             return Ok(Spot::Snapshot(data_at + access.offset));
         }
         // "8 is given exactly when a frame is needed and no entry has use 0."
-        let free = self.free_frames();
-        let taken = if self.has(Bug::CopyTakesHighestFrame) { free.last() } else { free.first() };
-        let frame = *taken.ok_or(Why::NoFreeFrame)?;
+        let frame = self.frame_for_copy(access.kind).ok_or(Why::NoFreeFrame)?;
         Ok(Spot::Take { frame, account, page, at: PAGE * frame + within })
     }
 

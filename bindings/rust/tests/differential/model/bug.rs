@@ -92,10 +92,36 @@ bugs! {
     FourthWordIgnored,
     AbsentEntryTested,
 
-    // Copies.
-    CopyTakesHighestFrame,
+    // The frame that a copy takes.
+    CopyTakesLowestFrame,
+    /// A span store's copy and a record's; the single store takes the highest.
+    SpanTakesLowestFrame,
+    /// The call `translate` alone.
+    TranslationNamesLowestFrame,
+    /// The highest frame that is not free.
+    CopyTakesHighestInUse,
+    /// The one above the topmost in use, or none.
+    CopyTakesFrameAboveUsed,
+    /// As above; above the last frame comes frame 0.
+    CopyWrapsAboveUsed,
+    /// A frame that becomes free above a copy is never found.
+    CopyTakesFrameBelowCopies,
+    CopyNeverTakesLastFrame,
+    CopyNeverTakesFrameZero,
+
+    // The frames that growth takes, and which are free.
+    StackTakesHighestFrame,
+    HeapTakesHighestFrame,
+    /// Whoever asks: the search ends at the number of frames less one.
+    LastFrameNeverFree,
     UnknownUseIsFree,
+
+    // The frame of a page.
     HighestClaimWins,
+    /// Of copies alone: the frame is looked for from where it was taken.
+    CopyFoundFromTop,
+
+    // Copies.
     CopyClaimNeedsTagZero,
     StoreOfEightTruncated,
     StoreAsksProgramEntry,
@@ -245,7 +271,6 @@ bugs! {
     // Regions.
     TagMustExceedDepth,
     TagMustEqualDepth,
-    GrowthTakesHighestFrame,
     GrowthOrderReversed,
     GrowthTagZero,
     GrowthReusesClaim,

@@ -107,9 +107,9 @@ impl Vm<'_> {
     }
 
     /// "The frame of a page is the lowest-numbered entry that claims it."
-    fn claim(&self, claims: impl Fn(&FrameEntry) -> bool) -> Option<usize> {
+    fn claim(&self, claims: impl Fn(&FrameEntry) -> bool, from_top: bool) -> Option<usize> {
         let mut frames = (0..self.frames()).filter(|&frame| claims(&self.frame_entry(frame)));
-        if self.has(Bug::HighestClaimWins) {
+        if from_top || self.has(Bug::HighestClaimWins) {
             return frames.next_back();
         }
         frames.next()
@@ -118,17 +118,12 @@ impl Vm<'_> {
     /// "A copy claims by account and page"
     pub fn claim_of_copy(&self, account: u16, page: u16) -> Option<usize> {
         let tag_right = |entry: &FrameEntry| entry.tag == 0 || !self.has(Bug::CopyClaimNeedsTagZero);
-        self.claim(|entry| entry.usage == COPY && entry.account == account && entry.page == page && tag_right(entry))
+        let claims = |entry: &FrameEntry| entry.usage == COPY && entry.account == account && entry.page == page && tag_right(entry);
+        self.claim(claims, self.has(Bug::CopyFoundFromTop))
     }
 
     /// "a stack or heap frame by page alone"
     pub fn claim_of_region(&self, region: u8, page: u16) -> Option<usize> {
-        self.claim(|entry| entry.usage == region && entry.page == page)
-    }
-
-    /// Free means use 0; other uses are "never handed out". Lowest first.
-    pub fn free_frames(&self) -> Vec<usize> {
-        let is_free = |usage: u8| usage == FREE || (usage > HEAP && self.has(Bug::UnknownUseIsFree));
-        (0..self.frames()).filter(|&frame| is_free(self.frame_entry(frame).usage)).collect()
+        self.claim(|entry| entry.usage == region && entry.page == page, false)
     }
 }

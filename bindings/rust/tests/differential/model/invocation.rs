@@ -66,10 +66,7 @@ impl Vm<'_> {
 
     /// "Growing takes the lowest free frames for the new pages, nearest page first, zeroed, with entry (use, depth, 0, page, 0)"
     fn grow(&mut self, region: u8, size: usize, pages: usize) -> Result<(), Why> {
-        let mut free = self.free_frames();
-        if self.has(Bug::GrowthTakesHighestFrame) {
-            free.reverse();
-        }
+        let free = self.frames_for_region(region);
         // "8 exactly when fewer are free than needed"
         if free.len() < pages - size {
             return Err(Why::NoFreeFrame);

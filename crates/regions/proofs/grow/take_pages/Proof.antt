@@ -123,18 +123,18 @@ abbrev count-of : tie.At-loop Inv-loop μ-loop → tie.After-frame-count Inv-loo
 count-of c = c .before .before .before
 
 -- once the next free entry is found: where the turn began
-abbrev turn-of : tie.After-lowest-free Inv-loop μ-loop → tie.At-loop Inv-loop μ-loop
+abbrev turn-of : tie.After-next-free Inv-loop μ-loop → tie.At-loop Inv-loop μ-loop
 turn-of c = c .before .before .before
 
 -- once the page is taken: where its entry was found
-abbrev found-of : tie.After-take-page Inv-loop μ-loop → tie.After-lowest-free Inv-loop μ-loop
+abbrev found-of : tie.After-take-page Inv-loop μ-loop → tie.After-next-free Inv-loop μ-loop
 found-of c = c .before .before .before .before
 
 -- that turn
-step : (c : tie.After-lowest-free Inv-loop μ-loop)
+step : (c : tie.After-next-free Inv-loop μ-loop)
     → let t = turn-of c in
     let s = start-of (count-of t) in
-    Step (s .args .r) (s .args .size) (t .loop .k) (s .args .pages) (s .args .c .now) (s .args .pool .now) (count-of t .frame-count .result) (t .loop .at) (t .loop .c) (t .loop .pool) (c .lowest-free .result)
+    Step (s .args .r) (s .args .size) (t .loop .k) (s .args .pages) (s .args .c .now) (s .args .pool .now) (count-of t .frame-count .result) (t .loop .at) (t .loop .c) (t .loop .pool) (c .next-free .result)
 step c =
     let t = turn-of c in
     let s = start-of (count-of t) in
@@ -148,7 +148,7 @@ step c =
       to = c .before .before .loop-test .taken;
       count = count-of t .frame-count .ensures .0;
       within = t .loop .inv .2;
-      found = c .lowest-free .ensures;
+      found = c .next-free .ensures;
     }
 
 frame-count-requires : tie.Need-frame-count-requires Inv-loop μ-loop
@@ -166,15 +166,15 @@ cast-depth c = let v = control-facts _ (start-of (c .before .before) .pre .0 .0)
 loop-holds : tie.Need-loop-holds Inv-loop μ-loop
 loop-holds c = (omega arith, omega arith, omega arith, start _ _ _ _)
 
-lowest-free-requires : tie.Need-lowest-free-requires Inv-loop μ-loop
-lowest-free-requires c κs =
+next-free-requires : tie.Need-next-free-requires Inv-loop μ-loop
+next-free-requires c κs =
     let t = c .before .before in
     let v = control-facts _ (start-of (count-of t) .pre .0 .0) in
     let z = same-control (t .loop .inv .3) in
     omega arith
 
-cast-t24 : tie.Need-cast-t24 Inv-loop μ-loop
-cast-t24 c =
+cast-t25 : tie.Need-cast-t25 Inv-loop μ-loop
+cast-t25 c =
     let v = control-facts _ (start-of (count-of (turn-of (c .before .before))) .pre .0 .0) in
     let x = room (step (c .before .before)) in
     omega arith
@@ -225,8 +225,8 @@ take-pages-spec =
     sub-depth
     cast-depth
     loop-holds
-    lowest-free-requires
-    cast-t24
+    next-free-requires
+    cast-t25
     page-at-requires
     take-page-requires
     add-k
