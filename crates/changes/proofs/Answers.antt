@@ -34,8 +34,8 @@ use Rattle.changes.specs.List.{listHeaderBytes, joined, listBytes, pageB
 use Rattle.changes.specs.Copies.{codeKey, tableCodes, codesBelow, keyTwice, entryListable, codeEntry, codePage, ChangeFits, Gathers, Answered, Tried}
 use Rattle.changes.specs.declared.copies.Gathered.{Gathered}
 use Rattle.changes.specs.declared.list.Attempt.{Attempt}
-use Rattle.changes.specs.Sort.{sorted}
-use Rattle.changes.proofs.Sorted.{length-sorted}
+use Rattle.sort.specs.Sort.{sorted}
+use Rattle.sort.proofs.Sorted.{length-sorted}
 use Rattle.changes.proofs.Codes.{CopyCode, codes-copies}
 use Rattle.changes.proofs.Apart.{Apart, once-apart, code-found, keys-are}
 use Rattle.changes.proofs.Listable.{listable-all, unlistable-entry, unlistable-twice}

@@ -1,5 +1,3 @@
-pub mod Sorted
-pub mod Parts
 pub mod Codes
 pub mod Apart
 pub mod Listable

@@ -2,4 +2,3 @@
 pub mod copies;
 pub mod entry;
 pub mod list;
-pub mod sort;
