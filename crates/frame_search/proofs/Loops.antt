@@ -53,6 +53,11 @@ top-is f n k h = let e : n - suc k ≡ n - (k + 1) = omega arith in rw e h
 
 -- ---- from either end
 
+-- tests that agree at each entry agree in either order
+pub end-ext : (end : End) (f g : ℕ → Bool) (n : ℕ) → ((i : ℕ) → f i ≡ g i) → (k : ℕ) → fromEnd end f n k ≡ fromEnd end g n k
+end-ext Lowest f g n e k = e k
+end-ext Highest f g n e k = e (n - suc k)
+
 -- a group that is so far from an end lies in the table
 pub group-in : (end : End) (n k : ℕ) {to : ℕ} → to ≡ groupEnd end k n → k + groupSize ≤ n → (groupSize ≤ to) × (to ≤ n)
 group-in Lowest n k e l = (omega arith, omega arith)

@@ -4,8 +4,7 @@ use super::counting::wanted_by_groups;
 use super::keyed::lowest_keyed;
 use super::search::GROUP;
 use super::search::first_few;
-use super::search::highest_match;
-use super::search::lowest_match;
+use super::search::nearest_match;
 use control::header::frame_count;
 use control::shadow::Region;
 use frames::claim::Claim;
@@ -65,7 +64,7 @@ pub fn lowest_page(c: &[u8], frames: usize, r: Region, p: Page) -> usize
     ensures { λ n. ⌜ n ≡ lowest (claims (now (c .entry)) (Anonymous r p)) frames ⌝ }
 {
     let wanted = (usage_of(r) as u64) + 4294967296 * (p.0 as u64);
-    lowest_match(c, 0, frames, PAGE_BITS, wanted)
+    nearest_match(c, End::Lowest, 0, frames, PAGE_BITS, wanted)
 }
 
 // The frame of a page: the lowest entry that claims it. The search stops there.
@@ -85,10 +84,7 @@ pub fn next_free(c: &[u8], end: End, from: usize, frames: usize) -> usize
     requires { ⌜ (frames ≤ frameLimit) × (from ≤ frames) × (controlLength frames ≤ length (now c)) ⌝ }
     ensures { λ r. ⌜ r ≡ seek (fromEnd end (isFree (now (c .entry))) frames) from (frames - from) ⌝ }
 {
-    match end {
-        End::Lowest => lowest_match(c, from, frames, USAGE_BITS, FREE as u64),
-        End::Highest => highest_match(c, from, frames, USAGE_BITS, FREE as u64),
-    }
+    nearest_match(c, end, from, frames, USAGE_BITS, FREE as u64)
 }
 
 // The lowest copy from `from` on; the frame count where none is. Copies mostly stand one behind the other, so the first entry is looked at before
@@ -102,7 +98,7 @@ pub fn next_copy(c: &[u8], from: usize, frames: usize) -> usize
             return from;
         }
     }
-    lowest_match(c, from, frames, USAGE_BITS, COPY as u64)
+    nearest_match(c, End::Lowest, from, frames, USAGE_BITS, COPY as u64)
 }
 
 // Whether one of the entries of a group, from i on, may be a region's. Stack and heap have the second bit of the use byte, free and copy do not;

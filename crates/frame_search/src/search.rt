@@ -140,28 +140,22 @@ pub fn first_few(from: usize, frames: usize) -> usize
     frames
 }
 
-// The lowest entry from `from` on that matches; the frame count where none does.
-pub fn lowest_match(c: &[u8], from: usize, frames: usize, mask: u64, wanted: u64) -> usize
+// How far from that end the nearest entry is that matches, of those `from` entries away and more; the frame count where none matches.
+pub fn nearest_match(
+    c: &[u8],
+    end: End,
+    from: usize,
+    frames: usize,
+    mask: u64,
+    wanted: u64,
+) -> usize
     requires { ⌜ (from ≤ frames) × (frames ≤ frameLimit) × (controlLength frames ≤ length (now c)) ⌝ }
-    ensures { λ r. ⌜ r ≡ seek (matches (now (c .entry)) mask wanted) from (frames - from) ⌝ }
+    ensures { λ r. ⌜ r ≡ seek (fromEnd end (matches (now (c .entry)) mask wanted) frames) from (frames - from) ⌝ }
 {
     let few = first_few(from, frames);
-    let found = one_by_one(c, from, few, mask, wanted);
+    let found = one_by_one_from(c, end, frames, from, few, mask, wanted);
     if found < few {
         return found;
     }
-    by_groups(c, End::Lowest, few, frames, mask, wanted)
-}
-
-// How many entries are above the highest that matches, of those with `from` above and more; the frame count where none matches.
-pub fn highest_match(c: &[u8], from: usize, frames: usize, mask: u64, wanted: u64) -> usize
-    requires { ⌜ (from ≤ frames) × (frames ≤ frameLimit) × (controlLength frames ≤ length (now c)) ⌝ }
-    ensures { λ r. ⌜ r ≡ seek (fromTop (matches (now (c .entry)) mask wanted) frames) from (frames - from) ⌝ }
-{
-    let few = first_few(from, frames);
-    let found = one_by_one_down(c, frames, from, few, mask, wanted);
-    if found < few {
-        return found;
-    }
-    by_groups(c, End::Highest, few, frames, mask, wanted)
+    by_groups(c, end, few, frames, mask, wanted)
 }

@@ -1,7 +1,5 @@
 -- The list of a history is the replay's, which is fed no frame: so it does not depend on them. Assumes nothing.
 use mathlib.Core.Path.{sym, _∙_}
-use mathlib.Core.List.{_∷_}
-use Rattle.hekthumar.specs.Steps.{begin}
 use Rattle.history.specs.Claims.{DemandThree}
 use Rattle.history.specs.Listed.{ListedAlike}
 use Rattle.history.proofs.Theorem.{demand-three}

@@ -23,12 +23,12 @@ mul-wanted c = search needs
 add-wanted : tie.Need-add-wanted
 add-wanted c = search needs
 
-lowest-match-requires : tie.Need-lowest-match-requires
-lowest-match-requires c κs = search needs
+nearest-match-requires : tie.Need-nearest-match-requires
+nearest-match-requires c κs = search needs
 
 returns : tie.Need-returns
 returns c =
-    c .lowest-match .ensures
+    c .nearest-match .ensures
     ∙ seek-ext _ _ _ _
     (λ i.
     page-matches _ i (λ j. omega (arith, c .before .before .before .shared-slice-known .given j)) (c .before .before .before .before .args .r)
@@ -44,5 +44,5 @@ lowest-page-spec =
     cast-wanted-2
     mul-wanted
     add-wanted
-    lowest-match-requires
+    nearest-match-requires
     returns)

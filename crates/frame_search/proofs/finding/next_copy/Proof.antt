@@ -18,18 +18,18 @@ returns c =
     (seek-hit _ _ _ (c .before .before .if1 .taken)
     (eq-eqb _ _ (sym (c .before .usage-at .ensures) ∙ c .if2 .taken)))
 
-cast-lowest-match : tie.Need-cast-lowest-match
-cast-lowest-match c = search needs
+cast-nearest-match : tie.Need-cast-nearest-match
+cast-nearest-match c = search needs
 
-lowest-match-requires : tie.Need-lowest-match-requires
-lowest-match-requires c κs = search needs
+nearest-match-requires : tie.Need-nearest-match-requires
+nearest-match-requires c κs = search needs
 
 returns-2 : tie.Need-returns-2
 returns-2 c =
-    c .lowest-match .ensures
+    c .nearest-match .ensures
     ∙ seek-ext _ _ _ _ (λ i. used-matches _ i (λ j. omega (arith, c .before .before .shared-slice-known .given j)))
 
 pub next-copy-spec : {M : Type 1} → statement M
 next-copy-spec =
     tie.close
-    (tie.spec usage-at-requires returns cast-lowest-match lowest-match-requires returns-2)
+    (tie.spec usage-at-requires returns cast-nearest-match nearest-match-requires returns-2)
