@@ -104,15 +104,20 @@ extern "C" {
 #define HEKTHUMAR_REGISTERS 256
 #define HEKTHUMAR_SHADOW (HEKTHUMAR_REGISTERS_AT + HEKTHUMAR_REGISTERS)
 #define HEKTHUMAR_TABLE_AT (HEKTHUMAR_SHADOW_AT + (HEKTHUMAR_MAX_INVOCATIONS + 1) * HEKTHUMAR_SHADOW)
+/* A frame entry: u8 use, u8 tag, u16 account, u16 page, u16 depth. The last is, of a copy, the depth at the store that took it, that is the
+ * calls since begin less the returns; of stack and heap pages, whose depth is the tag, it is 0. */
 #define HEKTHUMAR_FRAME_ENTRY 8
 #define HEKTHUMAR_FREE 0 /* use byte of a frame entry: this, */
 #define HEKTHUMAR_COPY 1 /* this, HEKTHUMAR_STACK or HEKTHUMAR_HEAP */
 #define HEKTHUMAR_CONTROL_LENGTH(frames) (HEKTHUMAR_TABLE_AT + (size_t)(frames) * HEKTHUMAR_FRAME_ENTRY)
 #define HEKTHUMAR_POOL_LENGTH(frames) ((size_t)(frames) * HEKTHUMAR_PAGE)
 
-/* Change list. With the frame count for the pages, the length is room for any list. */
+/* Change list: a header of four u32 (n, 16, 16 + 12 n where the pages start, the total 16 + 4,108 n), n entries that ascend by account and
+ * page, and their n pages of 4,096 bytes in the same order, each the live bytes and then zeros. An entry, by its offsets: 0 u16 account,
+ * 2 u16 page, 4 u32 live bytes, 8 u16 depth at the first store to the page, 10 u16 zero. With the frame count for the pages, the length is
+ * room for any list. */
 #define HEKTHUMAR_LIST_HEADER 16
-#define HEKTHUMAR_LIST_ENTRY 8
+#define HEKTHUMAR_LIST_ENTRY 12
 #define HEKTHUMAR_LIST_LENGTH(pages) (HEKTHUMAR_LIST_HEADER + (size_t)(pages) * (HEKTHUMAR_LIST_ENTRY + HEKTHUMAR_PAGE))
 
 typedef struct {
@@ -253,7 +258,7 @@ hekthumar_value hekthumar_fetch(const uint8_t *snapshot, size_t snapshot_len, co
                                 const uint8_t *pool, size_t pool_len, uint64_t address, size_t size);
 
 /* Stores the `size` lowest bytes of a value, 1, 2, 4 or 8. The first store to a page of an account takes the highest free frame for a copy of
- * the page, or gives 8, last, if none is free. */
+ * the page, or gives 8, last, if none is free. The frame's entry keeps the depth of that store; later ones leave it. */
 hekthumar_outcome hekthumar_store(const uint8_t *snapshot, size_t snapshot_len, uint8_t *control, size_t control_len, uint8_t *pool,
                                   size_t pool_len, uint64_t address, size_t size, uint64_t value);
 
@@ -302,11 +307,14 @@ uint8_t hekthumar_return(const uint8_t *snapshot, size_t snapshot_len, uint8_t *
 uint8_t hekthumar_resize(const uint8_t *snapshot, size_t snapshot_len, uint8_t *control, size_t control_len, uint8_t *pool,
                          size_t pool_len, uint8_t region, size_t pages);
 
-/* Writes the change list: 16 + 4,104 n bytes for n pages. Bytes of `out` past them stay. Refusals: 1, 11. */
+/* Writes the change list: 16 + 4,108 n bytes for n pages. Each has the depth that its frame's entry holds, whatever that is. Bytes of `out`
+ * past them stay. Refusals: 1, 11. */
 uint8_t hekthumar_change_list(const uint8_t *snapshot, size_t snapshot_len, const uint8_t *control, size_t control_len,
                               const uint8_t *pool, size_t pool_len, uint8_t *out, size_t out_len);
 
-/* Applies a change list to an account's data. Refusal: 12. */
+/* Applies a change list to an account's data. Refusal: 12 unless the four words agree, the buffer is not shorter than the total, the
+ * entries ascend strictly, every entry, this account's or not, has 1 to 4,096 live bytes and ends in a zero u16, and each of this account
+ * has the live bytes that the data's length gives. Any depth is taken. */
 uint8_t hekthumar_apply(const uint8_t *list, size_t list_len, uint16_t account, uint8_t *data, size_t data_len);
 
 /* Where the live bytes of an account's page lie now. Refusals: 1, 4, 1, 13. */

@@ -45,8 +45,8 @@ int print_changes(struct buffers *b, uint8_t *list) {
     printf("  change list: %d page%s\n", pages, pages == 1 ? "" : "s");
     for (int i = 0; i < pages; i++) {
         const uint8_t *entry = list + HEKTHUMAR_LIST_HEADER + HEKTHUMAR_LIST_ENTRY * i;
-        printf("    account %u, page %u, %u live bytes\n", (unsigned)get_number(entry, 2), (unsigned)get_number(entry + 2, 2),
-               (unsigned)get_number(entry + 4, 4));
+        printf("    account %u, page %u, %u live bytes, first stored to at depth %u\n", (unsigned)get_number(entry, 2),
+               (unsigned)get_number(entry + 2, 2), (unsigned)get_number(entry + 4, 4), (unsigned)get_number(entry + 8, 2));
     }
     return pages;
 }

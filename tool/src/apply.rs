@@ -5,8 +5,8 @@ use crate::files::{self, Limit};
 use crate::numbers::number;
 use crate::output::Output;
 use crate::rules::list::{broken, Target};
+use crate::session::pages_of;
 use crate::text::{count, name};
-use crate::verdict::list_entries;
 use std::ffi::OsStr;
 use std::os::unix::ffi::OsStrExt;
 use std::path::Path;
@@ -27,10 +27,12 @@ pub fn apply(list: &Path, account: &OsStr, data: &Path, target: &Path, out: &mut
     }
     files::write(target, &data)?;
     out.line("  0 done")?;
-    match list_entries(&bytes).filter(|entry| entry.account == account).count() {
+    let pages = pages_of(&bytes, account);
+    match pages.len() {
         0 => out.line(format_args!("  the list has no page of account {account}: the data is as it was"))?,
-        pages => out.line(format_args!("  {} of account {account} replaced", count(pages as u64, "page")))?,
+        replaced => out.line(format_args!("  {} of account {account} replaced", count(replaced as u64, "page")))?,
     }
+    out.lines(pages)?;
     out.line(format_args!("  wrote {} to {}", count(data.len() as u64, "byte"), name(target)))
 }
 

@@ -91,7 +91,8 @@ Two frames of four are in use: begin took frame 0, the lowest, for a page of sta
 frame 3, the highest, for page 1 of account 1. What is free lies between them.";
 
 const LISTED: &str = "
-The change list says what to write back: page 1, whole. These of its slots differ from the original.";
+The change list says what to write back: page 1, whole. It was first stored to at depth 0: by then no
+program had called another. These of its slots differ from the original.";
 
 const APPLIED: &str = "
 Applied to the original slots, the list brings both bookings and leaves the older one.";

@@ -1,7 +1,7 @@
 //! A map of the pool, a character to a frame, how far its two ends are used, and a line for each frame in use.
 
 use crate::pool_ends;
-use crate::rules::former::made_before_editions;
+use crate::rules::former_control::made_before_editions;
 use crate::world::COPY;
 use hekthumar::inspect::{frame_entries, FrameEntry};
 use hekthumar::Region;
@@ -41,11 +41,11 @@ fn mark(usage: u8) -> char {
     }
 }
 
-/// What a frame holds.
+/// What a frame holds. Only a copy's entry has a depth.
 fn holds(entry: FrameEntry) -> String {
-    let FrameEntry { usage, tag, account, page } = entry;
+    let FrameEntry { usage, tag, account, page, depth } = entry;
     match usage {
-        COPY => format!("account {account}, page {page}, tag {tag}"),
+        COPY => format!("account {account}, page {page}, tag {tag}, depth {depth}"),
         STACK => format!("stack, page {page}, tag {tag}"),
         HEAP => format!("heap, page {page}, tag {tag}"),
         _ => format!("use {usage}, page {page}, tag {tag}"),

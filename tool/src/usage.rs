@@ -77,8 +77,8 @@ DISCRIMINANT is 0 (Ok) or 1 (Err), and any other is refused with 14.
 const EXPECT: &str = "
 After => a statement says what it expects; words at the end may be left out. PLACE is snapshot,
 control, zeros, pool or take (a frame that would be taken for a copy), MARKS are those of the map.
-DISTANCE is how many bytes of an access come before the first that is not there. A call that is
-refused without => is unexpected.
+DISTANCE is how many bytes of an access come before the first that is not there. DEPTHs are those of
+the listed pages in order. A call that is refused without => is unexpected.
 ";
 
 const STATUS: &str = "

@@ -6,7 +6,7 @@ mod data;
 use common::folder::Folder;
 use common::tool::{self, Came};
 use data::bytes::{patched, with_word, words};
-use data::control::{control, entry, older, record, UNUSED};
+use data::control::{control, copy_at, entry, older, record, UNUSED};
 use data::layout::{account_at, control_length, COPY, HEAP, LENGTH, PAGE, STACK};
 use data::{list, snapshot};
 use std::collections::BTreeSet;
@@ -35,6 +35,7 @@ fn scripts() -> Vec<Script> {
         over("frames", snapshot::trials(1, &snapshot::slots())),
         begin(),
         heap(),
+        depths(),
         records(),
         editions(),
         inspect(),
@@ -78,6 +79,26 @@ fn heap_pool(numbers: [[u64; 2]; 3]) -> Vec<u8> {
     let copy = patched(&snapshot::slots()[..PAGE], 0, &[0xee]);
     let pool = patched(&[0; 6 * PAGE], 5 * PAGE, &copy);
     numbers.iter().zip(1..).fold(pool, |pool, (cell, frame)| patched(&pool, frame * PAGE, &cell.map(u64::to_le_bytes).concat()))
+}
+
+/// What the script keeps: copies of depths 2, 1 and 0 beside a heap page of depth 2, their list, and entries written over what was there.
+fn depths() -> Script {
+    let longs = |numbers: [u64; 2]| numbers.map(u64::to_le_bytes).concat();
+    let first = patched(&patched(&[snapshot::code(), vec![0; 84]].concat(), 1, &longs([7, 8])), 0x11, &longs([9, 10]));
+    let low = patched(&snapshot::slots()[..PAGE], 0, &[0xee, 0xef, 0xed]);
+    let booked = patched(&list::trial_slots()[PAGE..], 0xc, &[0x33, 0x44]);
+    let high = patched(&booked, 0x10, &longs([5, 6]));
+    let stored = list::list(&[(1, 0, &first), (5, 0, &low), (5, 1, &high)]);
+
+    let copies = [copy_at(2, 1, 0), copy_at(1, 5, 0), copy_at(0, 5, 1)];
+    let frames = [[entry(STACK, 0, 0, 4_095), entry(HEAP, 2, 0, 0), UNUSED].as_slice(), &copies].concat();
+    let taken = [entry(HEAP, 1, 0, 0), UNUSED, UNUSED, UNUSED, UNUSED, copy_at(1, 5, 1)];
+    let left = vec![
+        ("kept-control", control(&[record(0, 1, 1, &[])], &frames)),
+        ("kept-list", list::at_depths(&stored, &[2, 1, 0])),
+        ("taken-control", control(&[record(0, 0, 0, &[]), record(0, 0, 1, &[])], &taken)),
+    ];
+    Script { name: "depths", files: vec![("snapshot", snapshot::trials(1, &snapshot::slots()))], left }
 }
 
 /// What the script writes, field after field, and nothing of what is refused.

@@ -13,17 +13,17 @@ use std::fmt;
 /// ```
 /// use hekthumar::{ChangeList, Refusal};
 ///
-/// // One page: account 5, page 0, of which 3 bytes are live.
+/// // One page: account 5, page 0, of which 3 bytes are live, first stored to at depth 1.
 /// let mut bytes = Vec::new();
-/// for word in [1_u32, 16, 24, 4120] {
+/// for word in [1_u32, 16, 28, 4124] {
 ///     bytes.extend(word.to_le_bytes());
 /// }
-/// bytes.extend([5, 0, 0, 0, 3, 0, 0, 0]);
+/// bytes.extend([5, 0, 0, 0, 3, 0, 0, 0, 1, 0, 0, 0]);
 /// bytes.extend([b"new".as_slice(), &[0; 4093]].concat());
 ///
 /// let list = ChangeList::parse(&bytes)?;
 /// let change = list.entries().next().unwrap();
-/// assert_eq!((change.account, change.page, change.live), (5, 0, b"new".as_slice()));
+/// assert_eq!((change.account, change.page, change.live, change.depth), (5, 0, b"new".as_slice(), 1));
 ///
 /// let mut data = *b"old";
 /// list.apply(5, &mut data)?;
@@ -47,6 +47,8 @@ pub struct Change<'a> {
     pub page: u16,
     /// The page's bytes, 1 to 4,096; fewer than 4,096 if the data ends in this page.
     pub live: &'a [u8],
+    /// How deep the program ran that first stored to the page: the calls since begin, less the returns.
+    pub depth: u16,
 }
 
 impl<'a> ChangeList<'a> {
@@ -68,8 +70,8 @@ impl<'a> ChangeList<'a> {
     /// The pages in order.
     pub fn entries(&self) -> impl ExactSizeIterator<Item = Change<'a>> + 'a {
         self.entries.iter().zip(self.pages).map(|(entry, bytes)| {
-            let ListEntry { account, page, live } = ListEntry::decode(entry);
-            Change { account, page, live: &bytes[..live as usize] }
+            let ListEntry { account, page, live, depth, .. } = ListEntry::decode(entry);
+            Change { account, page, live: &bytes[..live as usize], depth }
         })
     }
 
@@ -99,7 +101,8 @@ impl<'a> ChangeList<'a> {
     fn entries_are_valid(&self) -> bool {
         let entries = || self.entries.iter().map(ListEntry::decode);
         let keys = entries().map(|entry| (entry.account, entry.page));
-        keys.is_sorted_by(|key, next| key < next) && entries().all(|entry| (1..=PAGE).contains(&(entry.live as usize)))
+        let is_valid = |entry: ListEntry| (1..=PAGE).contains(&(entry.live as usize)) && entry.zero == 0;
+        keys.is_sorted_by(|key, next| key < next) && entries().all(is_valid)
     }
 }
 

@@ -168,13 +168,15 @@ pub struct FrameEntry {
     pub account: u16,
     /// The page that the frame holds.
     pub page: u16,
+    /// Of a copy: the depth at the store that made it.
+    pub depth: u16,
 }
 
 impl FrameEntry {
     /// The entry of this frame.
     pub fn read(control: &[u8], frame: usize) -> Option<FrameEntry> {
         let entry = control.get(Self::at(frame)..)?.get(..FRAME_ENTRY)?;
-        Some(FrameEntry { usage: entry[0], tag: entry[1], account: half(entry, 2)?, page: half(entry, 4)? })
+        Some(FrameEntry { usage: entry[0], tag: entry[1], account: half(entry, 2)?, page: half(entry, 4)?, depth: half(entry, 6)? })
     }
 
     /// Where the entry of this frame starts in a control block.
@@ -218,6 +220,10 @@ pub struct ListEntry {
     pub page: u16,
     /// How many bytes of the page are live.
     pub live: u32,
+    /// The depth at the first store to the page.
+    pub depth: u16,
+    /// The number behind it, 0 in every list that is well-formed.
+    pub zero: u16,
 }
 
 impl ListEntry {
@@ -233,8 +239,14 @@ impl ListEntry {
     }
 
     pub(crate) fn decode(entry: &[u8; LIST_ENTRY]) -> ListEntry {
-        let [a0, a1, p0, p1, live @ ..] = *entry;
-        ListEntry { account: u16::from_le_bytes([a0, a1]), page: u16::from_le_bytes([p0, p1]), live: u32::from_le_bytes(live) }
+        let [a0, a1, p0, p1, l0, l1, l2, l3, d0, d1, z0, z1] = *entry;
+        ListEntry {
+            account: u16::from_le_bytes([a0, a1]),
+            page: u16::from_le_bytes([p0, p1]),
+            live: u32::from_le_bytes([l0, l1, l2, l3]),
+            depth: u16::from_le_bytes([d0, d1]),
+            zero: u16::from_le_bytes([z0, z1]),
+        }
     }
 }
 

@@ -61,7 +61,7 @@ pub const MAX_REGION: usize = SEGMENT / PAGE;
 pub const LIST_HEADER: usize = 16;
 
 /// Bytes of a page's entry in a change list.
-pub const LIST_ENTRY: usize = 8;
+pub const LIST_ENTRY: usize = 12;
 
 /// Bytes of a [`Buffer`](crate::Buffer) in a program's memory: two numbers of 64 bits.
 pub const BUFFER: usize = 16;

@@ -213,10 +213,32 @@ impl<'a> Memory<'a> {
         check(lend!(as_mut_ptr, self, hekthumar_resize(region as u8, pages)))
     }
 
-    /// Writes the list of account pages stored to since the last begin to the start of `out`.
+    /// Writes the list of account pages stored to since the last begin to the start of `out`, each with the depth at the first store to it.
     ///
     /// Refused with [`Refusal::OutputTooShort`] if `out` has less than [`change_list_len`](crate::change_list_len) of the pages' number,
     /// and with [`Refusal::Invalid`] if the table of frames contradicts itself or the snapshot.
+    ///
+    /// ```
+    /// # use hekthumar::*;
+    /// # let mut builder = SnapshotBuilder::new();
+    /// # let program = builder.account(Account::program([1, 2, 3, 4]));
+    /// # let slots = builder.account(Account::data(program, vec![7; 6_000]).writable());
+    /// # let snapshot = builder.build().unwrap();
+    /// # let (mut control, mut pool) = (vec![0; control_len(2)], vec![0; pool_len(2)]);
+    /// # let mut memory = Memory::new(&snapshot, &mut control, &mut pool);
+    /// memory.begin(program, Edition::Newer)?;
+    /// memory.call(program, &[0; 256])?;
+    /// memory.store_u8(Address::data(slots, 4)?, 0x11)?;
+    /// memory.return_from(&mut [0; 256])?;
+    /// memory.store_u8(Address::data(slots, 8)?, 0x22)?;
+    ///
+    /// let mut out = vec![0; change_list_len(1)];
+    /// let changes = memory.change_list(&mut out)?;
+    /// let change = changes.entries().next().unwrap();
+    /// assert_eq!((change.account, change.page, change.depth), (slots, 0, 1));
+    /// assert_eq!(change.live[4..9], [0x11, 7, 7, 7, 0x22]);
+    /// # Ok::<(), Refusal>(())
+    /// ```
     pub fn change_list<'b>(&self, out: &'b mut [u8]) -> Result<ChangeList<'b>, Refusal> {
         check(lend!(as_ptr, self, hekthumar_change_list(out.as_mut_ptr(), out.len())))?;
         ChangeList::parse(out)

@@ -87,20 +87,20 @@ fn two_stores_on_one_page_are_both_listed() {
     let mut out = vec![0xEE; change_list_len(4)];
     let list = memory.change_list(&mut out).unwrap();
     let bytes = list.as_bytes();
-    assert_eq!(words(&bytes[..16]), [1, 16, 24, 4120]);
-    assert_eq!(bytes[16..24], [0x05, 0, 0x01, 0, 0x70, 0x07, 0, 0]);
+    assert_eq!(words(&bytes[..16]), [1, 16, 28, 4124]);
+    assert_eq!(bytes[16..28], [0x05, 0, 0x01, 0, 0x70, 0x07, 0, 0, 0, 0, 0, 0]);
     let mut expected = original[4096..].to_vec();
     (expected[4], expected[8]) = (0x11, 0x22);
-    assert_eq!(bytes[24..][..1_904], expected);
-    assert_eq!(bytes[24 + 1_904..], [0; 2_192]);
+    assert_eq!(bytes[28..][..1_904], expected);
+    assert_eq!(bytes[28 + 1_904..], [0; 2_192]);
 
     assert_eq!(list.len(), 1);
     let changes: Vec<_> = list.entries().collect();
-    assert_eq!(changes, [Change { account: SLOTS, page: 1, live: &expected }]);
+    assert_eq!(changes, [Change { account: SLOTS, page: 1, live: &expected, depth: 0 }]);
     let mut data = original.clone();
     list.apply(SLOTS, &mut data).unwrap();
     assert_eq!(data, [&original[..4096], &expected].concat());
-    assert_eq!(out[4120..], vec![0xEE; change_list_len(4) - 4120]);
+    assert_eq!(out[4124..], vec![0xEE; change_list_len(4) - 4124]);
 }
 
 #[test]
@@ -297,11 +297,11 @@ fn the_fields_of_the_formats_are_those_of_the_calls() {
     use inspect::*;
     let mut host = Host::new(4);
     let mut memory = host.begin();
-    memory.store_u8(slot(0x1004), 0x11).unwrap();
     let mut registers = [0; 256];
     registers[8] = 0x77;
     memory.call(CALLEE, &registers).unwrap();
     memory.resize(Region::Heap, 1).unwrap();
+    memory.store_u8(Address::data(FOREIGN, 3).unwrap(), 0x11).unwrap();
     let mut list = vec![0; change_list_len(4)];
     memory.change_list(&mut list).unwrap();
     let Host { snapshot, control, .. } = host;
@@ -317,11 +317,11 @@ fn the_fields_of_the_formats_are_those_of_the_calls() {
     assert_eq!(ControlHeader::read(&control), Some(header));
     let current = Invocation::read(&control, 2).unwrap();
     assert_eq!((current.program, current.stack, current.heap, current.registers[1]), (CALLEE, 1, 1, 0x77));
-    let entry = |usage, tag, account, page| FrameEntry { usage, tag, account, page };
-    let entries = [entry(2, 0, 0, 4_095), entry(3, 1, 0, 0), entry(0, 0, 0, 0), entry(1, 0, SLOTS, 1)];
+    let entry = |usage, tag, account, page, depth| FrameEntry { usage, tag, account, page, depth };
+    let entries = [entry(2, 0, 0, 4_095, 0), entry(3, 1, 0, 0, 0), entry(0, 0, 0, 0, 0), entry(1, 0, FOREIGN, 0, 1)];
     assert!(frame_entries(&control).eq(entries));
-    assert_eq!(ListHeader::read(&list), Some(ListHeader { pages: 1, entries_at: 16, pages_at: 24, total: 4_120 }));
-    assert_eq!(ListEntry::read(&list, 0), Some(ListEntry { account: SLOTS, page: 1, live: 1_904 }));
+    assert_eq!(ListHeader::read(&list), Some(ListHeader { pages: 1, entries_at: 16, pages_at: 28, total: 4_124 }));
+    assert_eq!(ListEntry::read(&list, 0), Some(ListEntry { account: FOREIGN, page: 0, live: 8, depth: 1, zero: 0 }));
     assert_eq!((ListHeader::read(&list[..15]), ControlHeader::read(&[]), Invocation::read(&control, usize::MAX)), (None, None, None));
 }
 
@@ -358,6 +358,9 @@ fn near_list(random: &mut Random) -> Vec<u8> {
     for _ in 0..count {
         bytes.extend([random.below(2) as u8, 0, random.below(4) as u8, 0]);
         bytes.extend((random.below(4_098) as u32).to_le_bytes());
+        // Any depth, and behind it mostly 0.
+        let zero = if random.below(8) == 0 { 1 << random.below(16) } else { 0 };
+        bytes.extend([random.below(1 << 16) as u16, zero].map(u16::to_le_bytes).concat());
     }
     bytes.resize(change_list_len(count as usize) + random.below(3) as usize, 0xAB);
     if random.below(4) == 0 {
@@ -369,7 +372,7 @@ fn near_list(random: &mut Random) -> Vec<u8> {
 
 #[test]
 fn a_count_that_overflows_32_bits_is_refused() {
-    let bytes: Vec<u8> = [1 << 29, 16, 16, 16].into_iter().flat_map(u32::to_le_bytes).collect();
+    let bytes: Vec<u8> = [1 << 30, 16, 16, 16].into_iter().flat_map(u32::to_le_bytes).collect();
     assert_eq!(ChangeList::parse(&bytes), Err(Refusal::BadChangeList));
     assert_eq!(apply(&bytes, 0, &mut []), Err(Refusal::BadChangeList));
 }

@@ -12,11 +12,7 @@ const SLOTS: u16 = 2;
 
 impl Host {
     fn new(frames: usize) -> Host {
-        let mut builder = SnapshotBuilder::new();
-        builder.account(Account::program([0x13, 0, 0, 0]));
-        builder.account(Account::program([0x93, 0, 0, 0]));
-        builder.account(Account::data(HELPER, [1; 8]).writable());
-        Host::filled(builder, frames, 0xCC)
+        Host::of_two_programs([1; 8], frames)
     }
 
     /// Begins with one stack page, which is frame 0.
@@ -53,14 +49,14 @@ fn sizes(memory: &Memory, live: usize) -> Vec<u16> {
     (1..=live).map(|number| Invocation::read(memory.buffers().1, number).unwrap().heap).collect()
 }
 
-const FREE: FrameEntry = FrameEntry { usage: 0, tag: 0, account: 0, page: 0 };
+const FREE: FrameEntry = FrameEntry { usage: 0, tag: 0, account: 0, page: 0, depth: 0 };
 
 fn stack_entry(tag: u8, page: u16) -> FrameEntry {
-    FrameEntry { usage: 2, tag, account: 0, page }
+    FrameEntry { usage: 2, tag, page, ..FREE }
 }
 
 fn heap_entry(tag: u8, page: u16) -> FrameEntry {
-    FrameEntry { usage: 3, tag, account: 0, page }
+    FrameEntry { usage: 3, tag, page, ..FREE }
 }
 
 /// Each node is its value and the offset of the next one; the last has the offset 0.
@@ -97,7 +93,7 @@ fn a_return_frees_the_stack_and_leaves_the_heap() {
     memory.resize(Region::Stack, 2).unwrap();
     heap(&mut memory, 2).unwrap();
     memory.store_u8(Address::data(SLOTS, 0).unwrap(), 7).unwrap();
-    let copy = FrameEntry { usage: 1, tag: 0, account: SLOTS, page: 0 };
+    let copy = FrameEntry { usage: 1, tag: 0, account: SLOTS, page: 0, depth: 1 };
     let [first, second] = [stack_entry(0, 4_095), stack_entry(1, 4_094)];
     assert_eq!(entries(&memory), [first, heap_entry(0, 0), second, heap_entry(1, 1), FREE, copy]);
     let pool = memory.buffers().2.to_vec();

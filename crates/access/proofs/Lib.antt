@@ -1,4 +1,5 @@
 pub mod Answers
+pub mod Entry
 pub mod Seen
 pub mod Near
 pub mod Fetches

@@ -1,9 +1,10 @@
--- Document 01, "Order for an access" and "Copies": stores and span stores. Assumes nothing.
+-- Document 01, "Order for an access" and "Copies", with document 02, "Eight": stores and span stores. Assumes nothing.
 use Prim.Native.Nat.{ℕ}
 use mathlib.Core.List.{List}
 use lib.ListN.{length}
 use Rattle.layout.specs.Control.{usageCopy}
 use Rattle.words.specs.Words.{splice}
+use Rattle.control.specs.Control.{depth}
 use Rattle.pages.specs.Pages.{frameStart, originalPage}
 use Rattle.frames.specs.Table.{putFrameEntry}
 use Rattle.frames.specs.declared.table.FrameEntry.{FrameEntry}
@@ -33,13 +34,13 @@ placeInPool Zeros = 0
 placeInPool (InPool at) = at
 placeInPool (Take t) = t .at
 
--- "writes its entry (use 1, tag 0, account, page, 0)"
-abbrev pub copyEntry : NewCopy → FrameEntry
-copyEntry t = record { usage = usageCopy; tag = 0; account = t .account; page = t .page; zero = 0 }
+-- "writes its entry (use 1, tag 0, account, page, 0)", whose last "becomes, for copies, the depth at the store that made the copy"
+abbrev pub copyEntry : List ℕ → NewCopy → FrameEntry
+copyEntry c t = record { usage = usageCopy; tag = 0; account = t .account; page = t .page; depth = depth c }
 
 -- the control block with a copy's entry
 abbrev pub takenControl : List ℕ → NewCopy → List ℕ
-takenControl c t = putFrameEntry c (t .frame .0) (copyEntry t)
+takenControl c t = putFrameEntry c (t .frame .0) (copyEntry c t)
 
 -- "copies the page's original bytes, fills the rest with zeros"
 abbrev pub takenPool : List ℕ → List ℕ → NewCopy → List ℕ

@@ -1,4 +1,5 @@
 // The copy of a page in a frame.
+use control::header::invocation_count;
 use frames::table::FrameEntry;
 use frames::table::put_frame_entry;
 use layout::control::COPY;
@@ -22,6 +23,7 @@ pub fn take_copy(s: &[u8], c: &mut [u8], pool: &mut [u8], t: NewCopy)
 {
     let account = t.account;
     let page = t.page;
+    let depth = (invocation_count(c) - 1) as u16;
     put_frame_entry(
         c,
         t.frame,
@@ -30,7 +32,7 @@ pub fn take_copy(s: &[u8], c: &mut [u8], pool: &mut [u8], t: NewCopy)
             tag: 0,
             account,
             page,
-            zero: 0,
+            depth,
         },
     );
     let e = whole_account_entry(s, account);

@@ -20,7 +20,7 @@ use Rattle.pages.specs.Pages.{liveOf}
 use Rattle.pages.specs.declared.Page.{Page}
 use Rattle.pages.proofs.PageBytes.{live-inside}
 use Rattle.changes.specs.Keys.{keyOf}
-use Rattle.apply.specs.Apply.{listCount, changeAccount, changePage, changeLive, layoutExact, ascends, changeGood, listGood}
+use Rattle.apply.specs.Apply.{listCount, changeAccount, changePage, changeLive, changeZero, layoutExact, ascends, changeGood, listGood}
 
 -- ---- the layout
 
@@ -72,6 +72,7 @@ pageOf l i = record { 0 = changePage l i }
 -- what a good entry keeps, where the account's data is so long
 pub record ChangeFacts (l : List ℕ) (a : Account) (size i : ℕ) : Type 0 where
   pub in-order : ascends l i ≡ true
+  pub ends : changeZero l i ≡ 0
   pub some-live : 1 ≤ changeLive l i
   pub few-live : changeLive l i ≤ pageSize
   pub its-live : changeAccount l i ≡ a .0 → changeLive l i ≡ liveOf size (pageOf l i)
@@ -83,14 +84,16 @@ module _ (l : List ℕ) (a : Account) (size i : ℕ) where
       let t₁ = both-true _ _ e in
       let t₂ = both-true _ _ (t₁ .1) in
       let t₃ = both-true _ _ (t₂ .1) in
+      let t₄ = both-true _ _ (t₃ .1) in
       record {
         in-order = t₁ .0;
-        some-live = leb-true _ _ (t₂ .0);
-        few-live = leb-true _ _ (t₃ .0);
+        ends = eqb-true _ _ (t₂ .0);
+        some-live = leb-true _ _ (t₃ .0);
+        few-live = leb-true _ _ (t₄ .0);
         its-live =
             λ h.
             ⊎-elim (λ x. absurd (eqb-false (changeAccount l i) (a .0) (not-true _ x) h)) (λ x. eqb-true _ _ x)
-            (either-true _ _ (t₃ .1));
+            (either-true _ _ (t₄ .1));
       }
 
   -- the live bytes of an entry of this account lie in the data

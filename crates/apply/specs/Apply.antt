@@ -1,4 +1,4 @@
--- Document 01, "Change list and page view": applying a list to an account's data. Assumes nothing.
+-- Document 01, "Change list and page view", with document 02, "Eight": applying a list to an account's data. Assumes nothing.
 use Prim.Native.Nat.{ℕ, zero, suc, _+_, _-_, _*_}
 use mathlib.Core.Bool.{Bool, not}
 use mathlib.Core.List.{List}
@@ -32,6 +32,10 @@ changePage l i = changeIn l i .page .0
 abbrev pub changeLive : List ℕ → ℕ → ℕ
 changeLive l i = changeIn l i .live
 
+-- entry i's last u16
+abbrev pub changeZero : List ℕ → ℕ → ℕ
+changeZero l i = changeIn l i .zero
+
 -- "exactly that layout (it may be longer than its total ..)"
 unfoldable pub layoutExact : List ℕ → Bool
 layoutExact l =
@@ -46,13 +50,15 @@ ascends l i =
     either (eqb i 0)
     (ltb (keyOf (changeAccount l (i - 1)) (changePage l (i - 1))) (keyOf (changeAccount l i) (changePage l i)))
 
--- "every live count 1..4,096, and each entry of this account has the live count that this data length gives"
+-- "every live count 1..4,096, and each entry of this account has the live count that this data length gives"; "Applying refuses an entry whose
+-- last u16 isn't zero"
 unfoldable pub changeGood : List ℕ → Account → ℕ → ℕ → Bool
 changeGood l a size i =
     both (ascends l i)
+    (both (eqb (changeZero l i) 0)
     (both (leb 1 (changeLive l i))
     (both (leb (changeLive l i) pageSize)
-    (either (not (eqb (changeAccount l i) (a .0))) (eqb (changeLive l i) (liveOf size (record { 0 = changePage l i }))))))
+    (either (not (eqb (changeAccount l i) (a .0))) (eqb (changeLive l i) (liveOf size (record { 0 = changePage l i })))))))
 
 -- "12 unless the list has exactly that layout .., entries strictly ascending, .."
 unfoldable pub listGood : List ℕ → Account → ℕ → Bool

@@ -61,13 +61,16 @@ fn ascends(l: &[u8], i: usize) -> bool
     change_key(l, i - 1) < change_key(l, i)
 }
 
-// Whether entry i is in order and its live count is one that it may have.
+// Whether entry i is in order, ends with a zero, and its live count is one that it may have.
 fn change_good(l: &[u8], a: Account, size: usize, i: usize) -> bool
     requires { ⌜ (i < 2 ^ 32) × (changeAt i + changeSize ≤ length (now l)) ⌝ }
     ensures { λ r. ⌜ r ≡ changeGood (now (l .entry)) a size i ⌝ }
 {
     if ascends(l, i) {
         let e = read_change(l, i);
+        if e.zero != 0 {
+            return false;
+        }
         if e.live < 1 {
             return false;
         }

@@ -30,14 +30,14 @@ use Rattle.frames.specs.Table.{frameEntryOf, isCopy}
 use Rattle.frames.proofs.Entries.{EntryRange, entry-range}
 use Rattle.changes.specs.Keys.{copyKeys}
 use Rattle.changes.specs.Entry.{changeBytes, changeOf}
-use Rattle.changes.specs.List.{listHeaderBytes, joined, listBytes, pageBytes, changeList, listable, listCheck, changeListNumber, changeListOut}
-use Rattle.changes.specs.Copies.{codeKey, tableCodes, codesBelow, keyTwice, entryListable, codeEntry, codePage, ChangeFits, Gathers, Answered, Tried}
+use Rattle.changes.specs.List.{listHeaderBytes, joined, listBytes, pageBytes, copyDepth, changeList, listable, listCheck, changeListNumber, changeListOut}
+use Rattle.changes.specs.Copies.{codeKey, codeDepth, tableCodes, codesBelow, keyTwice, entryListable, codeEntry, codePage, ChangeFits, Gathers, Answered, Tried}
 use Rattle.changes.specs.declared.copies.Gathered.{Gathered}
 use Rattle.changes.specs.declared.list.Attempt.{Attempt}
 use Rattle.sort.specs.Sort.{sorted}
 use Rattle.sort.proofs.Sorted.{length-sorted}
 use Rattle.changes.proofs.Codes.{CopyCode, codes-copies}
-use Rattle.changes.proofs.Apart.{Apart, once-apart, code-found, keys-are}
+use Rattle.changes.proofs.Apart.{Apart, once-apart, code-found, code-told, keys-are}
 use Rattle.changes.proofs.Listable.{listable-all, unlistable-entry, unlistable-twice}
 use Rattle.changes.proofs.Written.{joined-images, joined-ext, length-joined, length-change, parts-written}
 
@@ -121,7 +121,7 @@ module _ (s c p order : List ℕ) (n : ℕ) (h : Listed s c p order n) where
 
   -- no two copies are of one page
   apart : Apart c (frames c)
-  apart = once-apart c (frames c) limit once
+  apart = once-apart c (h .bytes) (frames c) limit once
 
   -- there are n codes
   codes-count : length (take n order) ≡ n
@@ -161,17 +161,22 @@ module _ (s c p order : List ℕ) (n : ℕ) (h : Listed s c p order n) where
       let u : CopyCode c (frames c) (getD order j 0) = codes-copies c (frames c) (getD order j 0) (rw (h .codes) at m) in
       let r : EntryRange (frameEntryOf c (u .frame)) = entry-range c (h .bytes) (u .frame) in
       let a : codeKey (getD order j 0) / 65536 ≡ frameEntryOf c (u .frame) .account .0 =
-      omega (arith, u .is, u .below, r .page, limit) in
+      omega (arith, u .is, u .below, r .page, r .depth, limit) in
       record {
         snapshot = f .snapshot;
         account = rw a (entry-known (u .frame) (u .below) (u .copy));
-        frame = omega (arith, u .is, u .below, f .pool, limit);
+        frame = omega (arith, u .is, u .below, r .depth, f .pool, limit);
       }
 
   -- a code's page is the page of its key
   same-page : (x : ℕ) → Member x (take n order) → codePage s p x ≡ pageBytes s c p (codeKey x)
   unfolding pageBytes
   same-page x m = rw (code-found c (h .bytes) limit apart x (rw (h .codes) at m))
+
+  -- a code's entry is the entry of its key
+  same-entry : (x : ℕ) → Member x (take n order) → codeEntry s x ≡ changeBytes (changeOf s (copyDepth c) (codeKey x))
+  same-entry x m =
+      ap (λ (d : ℕ). changeBytes (changeOf s (λ _. d) (codeKey x))) (code-told c (h .bytes) limit apart x (rw (h .codes) at m))
 
   -- pieces that are those of the keys
   of-keys : (f g : ℕ → List ℕ) → ((x : ℕ) → Member x (take n order) → f x ≡ g (codeKey x)) → joined f (take n order) ≡ joined g (copyKeys c)
@@ -181,7 +186,7 @@ module _ (s c p order : List ℕ) (n : ℕ) (h : Listed s c p order n) where
   parts : (listHeaderBytes n ++ (joined (codeEntry s) (take n order) ++ joined (codePage s p) (take n order))) ≡ changeList s c p
   unfolding changeList listBytes
   parts =
-      rw (of-keys (codeEntry s) (λ k. changeBytes (changeOf s k)) (λ x m. refl), of-keys (codePage s p) (pageBytes s c p) same-page, count)
+      rw (of-keys (codeEntry s) (λ k. changeBytes (changeOf s (copyDepth c) k)) same-entry, of-keys (codePage s p) (pageBytes s c p) same-page, count)
 
   -- the list is written
   pub written : (out : List ℕ) {o₁ o₂ : List ℕ} {t : ℕ} → t ≡ listTotal n → t ≤ length out → o₁ ≡ splice out 0 (listHeaderBytes n)
@@ -191,6 +196,6 @@ module _ (s c p order : List ℕ) (n : ℕ) (h : Listed s c p order n) where
   written out e l e₁ e₂ =
       let es : List ℕ = joined (codeEntry s) (take n order) in
       let k : length es ≡ changeSize * n =
-      length-joined (codeEntry s) changeSize (λ x. length-change (changeOf s (codeKey x))) (take n order) ∙ ap (λ (m : ℕ). changeSize * m) codes-count in
+      length-joined (codeEntry s) changeSize (λ x. length-change (changeOf s (λ _. codeDepth x) (codeKey x))) (take n order) ∙ ap (λ (m : ℕ). changeSize * m) codes-count in
       let q : listCheck s c p (length out) ≡ Pass = goes-on out ∙ need-last _ ShortOutput (le-leb (listTotal n) (length out) (rw e at l)) in
       rw q (refl, e₂ ∙ rw e₁ (parts-written out n es (joined (codePage s p) (take n order)) k) ∙ ap (splice out 0) parts)

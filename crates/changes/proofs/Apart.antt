@@ -4,6 +4,7 @@ use Prim.Native.Nat.{ℕ, suc, _-_, _≤_, _<_}
 use mathlib.Core.Path.{_≡_, refl, sym, ap, _∙_}
 use mathlib.Core.Bool.{Bool, true, false, not}
 use mathlib.Core.List.{List, map}
+use native.Mathlib.Decide.{decLt}
 use native.Mathlib.Omega.{arith}
 use lib.Dec.{eqb}
 use lib.ListN.{length, getD, length-map}
@@ -20,8 +21,9 @@ use Rattle.frames.specs.declared.claim.Found.the-variants.{At, Nothing}
 use Rattle.frames.proofs.Entries.{EntryRange, entry-range}
 use Rattle.frames.proofs.Claims.{IsCopy, claims-copy, copy-claims, frame-found, found-frame}
 use Rattle.changes.specs.Keys.{keyAccount, keyPage, keyClaim, keyLimit, isCopied, copyKeys}
-use Rattle.changes.specs.Copies.{entryCode, codeKey, codeFrame, codesBelow, keyTwice}
-use Rattle.changes.proofs.Codes.{entryKey, code-key, code-frame, code-once, CopyCode, codes-copies, copies-codes, codes-ascending}
+use Rattle.changes.specs.List.{frameDepth, copyDepth}
+use Rattle.changes.specs.Copies.{entryCode, codeKey, codeFrame, codeDepth, codesBelow, keyTwice}
+use Rattle.changes.proofs.Codes.{entryKey, code-key, code-frame, code-depth, code-once, CopyCode, codes-copies, copies-codes, codes-ascending}
 
 -- of the first n entries no two copies are of one page
 abbrev pub Apart : List ℕ → ℕ → Type 0
@@ -44,7 +46,7 @@ keys-ascending xs a h =
     let d : codeKey (getD xs j 0) ≡ codeKey (getD xs (suc j) 0) → ⊥ = eqb-false _ _ (not-true _ t) in
     rw (getD-images codeKey xs j (omega arith), getD-images codeKey xs (suc j) m) (omega (arith, a j (suc j) (omega arith) m)))
 
-module _ (c : List ℕ) (n : ℕ) (few : n ≤ frameLimit) where
+module _ (c : List ℕ) (bytes : (k : ℕ) → getD c k 0 < 256) (n : ℕ) (few : n ≤ frameLimit) where
   -- where no two neighbours have one key, no two copies have
   pub once-apart : keyTwice (codesBelow c n) ≡ false → Apart c n
   once-apart h i j l m p q e =
@@ -52,14 +54,14 @@ module _ (c : List ℕ) (n : ℕ) (few : n ≤ frameLimit) where
       let u : Member (entryCode c i) xs = copies-codes c n i (omega arith) p in
       let v : Member (entryCode c j) xs = copies-codes c n j m q in
       let f : getD (map codeKey xs) (u .at) 0 ≡ entryKey c i =
-      getD-images codeKey xs (u .at) (u .below) ∙ ap codeKey (u .is) ∙ code-key c i (omega arith) in
+      getD-images codeKey xs (u .at) (u .below) ∙ ap codeKey (u .is) ∙ code-key c bytes i (omega arith) in
       let g : getD (map codeKey xs) (v .at) 0 ≡ entryKey c j =
-      getD-images codeKey xs (v .at) (v .below) ∙ ap codeKey (v .is) ∙ code-key c j (omega arith) in
+      getD-images codeKey xs (v .at) (v .below) ∙ ap codeKey (v .is) ∙ code-key c bytes j (omega arith) in
       let s : u .at ≡ v .at =
-      ascending-once (map codeKey xs) (keys-ascending xs (codes-ascending c n few) h) (u .at) (v .at)
+      ascending-once (map codeKey xs) (keys-ascending xs (codes-ascending c n bytes few) h) (u .at) (v .at)
       (omega (arith, u .below, length-map xs codeKey)) (omega (arith, v .below, length-map xs codeKey)) (f ∙ e ∙ sym g) in
       let w : entryCode c i ≡ entryCode c j = sym (u .is) ∙ ap (λ (k : ℕ). getD xs k 0) s ∙ v .is in
-      omega (arith, code-once c i j (omega arith) (omega arith) w)
+      omega (arith, code-once c bytes i j (omega arith) (omega arith) w)
 
   -- where no two copies have one key, no two neighbours have
   pub apart-once : Apart c n → keyTwice (codesBelow c n) ≡ false
@@ -71,11 +73,19 @@ module _ (c : List ℕ) (n : ℕ) (few : n ≤ frameLimit) where
       rw (ne-eqb (codeKey (getD xs j 0)) (codeKey (getD xs (suc j) 0))
       (λ e.
       let m : suc j < length xs = omega arith in
-      let a : getD xs j 0 < getD xs (suc j) 0 = codes-ascending c n few j (suc j) (omega arith) m in
+      let a : getD xs j 0 < getD xs (suc j) 0 = codes-ascending c n bytes few j (suc j) (omega arith) m in
       let u : CopyCode c n (getD xs j 0) = codes-copies c n _ (record { at = j; below = omega arith; is = refl }) in
       let v : CopyCode c n (getD xs (suc j) 0) = codes-copies c n _ (record { at = suc j; below = m; is = refl }) in
-      h (u .frame) (v .frame) (omega (arith, u .is, v .is, u .below, v .below)) (v .below) (u .copy) (v .copy)
-      (omega (arith, u .is, v .is, u .below, v .below))))))
+      let d : EntryRange (frameEntryOf c (u .frame)) = entry-range c bytes (u .frame) in
+      let g : EntryRange (frameEntryOf c (v .frame)) = entry-range c bytes (v .frame) in
+      let f : entryKey c (u .frame) ≡ entryKey c (v .frame) = omega (arith, u .is, v .is, u .below, v .below, d .depth, g .depth) in
+      elim (decLt (u .frame) (v .frame)) [
+        | yes p ↦ h (u .frame) (v .frame) p (v .below) (u .copy) (v .copy) f
+        | no p ↦
+            let i : u .frame ≡ v .frame = omega (arith, u .is, v .is, d .depth, g .depth) in
+            let w : getD xs j 0 ≡ getD xs (suc j) 0 = u .is ∙ ap (entryCode c) i ∙ sym (v .is) in
+            omega arith
+      ]))))
 
 -- ---- pages
 
@@ -112,7 +122,17 @@ module _ (c : List ℕ) (bytes : (k : ℕ) → getD c k 0 < 256) where
     code-found x m =
         let u : CopyCode c (frames c) x = codes-copies c (frames c) x m in
         let l : u .frame < frameLimit = omega (arith, u .below) in
-        rw (u .is, code-key c (u .frame) l, code-frame c (u .frame) l) (entry-frame (u .frame) (u .below) (u .copy))
+        rw (u .is, code-key c bytes (u .frame) l, code-frame c bytes (u .frame) l) (entry-frame (u .frame) (u .below) (u .copy))
+
+    -- the depth of a code's page is the code's
+    pub code-told : (x : ℕ) → Member x (codesBelow c (frames c)) → codeDepth x ≡ copyDepth c (codeKey x)
+    unfolding copyDepth
+    code-told x m =
+        let u : CopyCode c (frames c) x = codes-copies c (frames c) x m in
+        let l : u .frame < frameLimit = omega (arith, u .below) in
+        let f : codeFrame x ≡ u .frame = ap codeFrame (u .is) ∙ code-frame c bytes (u .frame) l in
+        ap codeDepth (u .is) ∙ code-depth c bytes (u .frame) l
+        ∙ sym (ap (frameDepth c) (code-found x m) ∙ ap (λ (i : ℕ). frameEntryOf c i .depth) f)
 
     -- each code's key is that of a page with a copy
     key-copied : (z : ℕ) → Member z (map codeKey (codesBelow c (frames c))) → Member z (copyKeys c)
@@ -122,7 +142,7 @@ module _ (c : List ℕ) (bytes : (k : ℕ) → getD c k 0 < 256) where
         let g = image-member codeKey xs z m in
         let u : CopyCode c (frames c) (g .0) = codes-copies c (frames c) (g .0) (g .1) in
         let r : EntryRange (frameEntryOf c (u .frame)) = entry-range c bytes (u .frame) in
-        passes-picked (isCopied c) 0 keyLimit z (omega arith) (omega (arith, g .2, u .is, u .below, r .account, r .page))
+        passes-picked (isCopied c) 0 keyLimit z (omega arith) (omega (arith, g .2, u .is, u .below, r .account, r .page, r .depth))
         (rw (g .2, code-found (g .0) (g .1)))
 
     -- the key of each page with a copy is a code's
@@ -135,7 +155,7 @@ module _ (c : List ℕ) (bytes : (k : ℕ) → getD c k 0 < 256) where
         look (At f) e t =
             let g = frame-found c (keyClaim z) f e in
             let k = claims-key (f .0) z (g .passes) in
-            let u : codeKey (entryCode c (f .0)) ≡ z = code-key c (f .0) (omega (arith, g .below)) ∙ k .1 in
+            let u : codeKey (entryCode c (f .0)) ≡ z = code-key c bytes (f .0) (omega (arith, g .below)) ∙ k .1 in
             rw u at (member-image codeKey (codesBelow c (frames c)) (entryCode c (f .0)) (copies-codes c (frames c) (f .0) (g .below) (k .0)))
 
     -- the codes' keys are the keys of the pages that copies claim
@@ -143,5 +163,5 @@ module _ (c : List ℕ) (bytes : (k : ℕ) → getD c k 0 < 256) where
     unfolding copyKeys
     keys-are =
         ascending-same (map codeKey (codesBelow c (frames c))) (copyKeys c)
-        (keys-ascending (codesBelow c (frames c)) (codes-ascending c (frames c) few) (apart-once c (frames c) few apart))
+        (keys-ascending (codesBelow c (frames c)) (codes-ascending c (frames c) bytes few) (apart-once c bytes (frames c) few apart))
         (picked-ascending (isCopied c) 0 keyLimit) key-copied copied-key

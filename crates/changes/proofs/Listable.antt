@@ -67,7 +67,7 @@ module _ (s c : List ℕ) (bytes : (k : ℕ) → getD c k 0 < 256) (n : ℕ) (fe
       by-test (isCopy c j)
       (λ q.
       let t : fit s c j ≡ true = rw q at (every-at (entryListable s c) n j h m) in
-      rw (q, t, apart-before (once-apart c n few d) j m q))
+      rw (q, t, apart-before (once-apart c bytes n few d) j m q))
       (λ q. rw q))
 
   -- where every entry can be listed, the code's test of each passes
@@ -84,4 +84,4 @@ module _ (s c : List ℕ) (bytes : (k : ℕ) → getD c k 0 < 256) (n : ℕ) (fe
 
   -- a page is claimed twice: not every entry can be listed
   pub unlistable-twice : keyTwice (codesBelow c n) ≡ true → every (listable s c) n ≡ false
-  unlistable-twice h = fails (every (listable s c) n) (λ t. differ _ h (apart-once c n few (listable-apart t)))
+  unlistable-twice h = fails (every (listable s c) n) (λ t. differ _ h (apart-once c bytes n few (listable-apart t)))

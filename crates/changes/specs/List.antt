@@ -1,4 +1,4 @@
--- Document 01, "Change list and page view": the change list. Assumes nothing.
+-- Document 01, "Change list and page view", with document 02, "Eight": the change list. Assumes nothing.
 use Prim.Native.Nat.{ℕ}
 use mathlib.Core.Bool.{Bool, not}
 use mathlib.Core.List.{List, [], _∷_, _++_}
@@ -22,7 +22,7 @@ use Rattle.changes.specs.Entry.{changeBytes, changeOf}
 use Rattle.changes.specs.Keys.{keyAccount, keyPage, keyClaim, copyKeys}
 use Rattle.changes.specs.declared.entry.Change.{Change}
 
--- "Header of four u32: count n, 16, 16+8n, total 16+4,104n"
+-- "Header of four u32: count n, 16," where the pages begin, total
 unfoldable pub listHeaderBytes : ℕ → List ℕ
 listHeaderBytes n = wordBytes 4 n ++ (wordBytes 4 listHeader ++ (wordBytes 4 (pagesAt n) ++ wordBytes 4 (listTotal n)))
 
@@ -48,9 +48,18 @@ frameBytes p Nothing = []
 unfoldable pub pageBytes : List ℕ → List ℕ → List ℕ → ℕ → List ℕ
 pageBytes s c p k = padded (live s (keyAccount k) (keyPage k)) (frameBytes p (frameOf c (keyClaim k)))
 
+-- the depth that a frame's entry holds
+abbrev pub frameDepth : List ℕ → Found → ℕ
+frameDepth c (At f) = frameEntryOf c (f .0) .depth
+frameDepth c Nothing = 0
+
+-- "then that u16": the depth that the entry of the page's copy holds
+unfoldable pub copyDepth : List ℕ → ℕ → ℕ
+copyDepth c k = frameDepth c (frameOf c (keyClaim k))
+
 -- the change list
 unfoldable pub changeList : List ℕ → List ℕ → List ℕ → List ℕ
-changeList s c p = listBytes (changeOf s) (pageBytes s c p) (copyKeys c)
+changeList s c p = listBytes (changeOf s (copyDepth c)) (pageBytes s c p) (copyKeys c)
 
 -- ---- the call
 

@@ -1,4 +1,4 @@
-// An entry of the change list: which page changed, and how many of its bytes are live.
+// An entry of the change list: which page changed, how many of its bytes are live, and how deep it was first stored to.
 use layout::list::change_at;
 use pages::Page;
 use snapshot::accounts::Account;
@@ -17,6 +17,8 @@ pub struct Change {
     pub account: Account,
     pub page: Page,
     pub live: usize,
+    pub depth: u16,
+    pub zero: u16,
 }
 
 // Entry i of a list.
@@ -29,20 +31,29 @@ pub fn read_change(l: &[u8], i: usize) -> Change
         account: Account(u16_at(l, at)),
         page: Page(u16_at(l, at + 2)),
         live: u32_at(l, at + 4),
+        depth: u16_at(l, at + 8),
+        zero: u16_at(l, at + 10),
     }
 }
 
-// Writes entry i of a list, in one store.
+// Writes entry i of a list, in two stores.
 pub fn put_change(out: &mut [u8], i: usize, e: Change)
     requires { ⌜ (i < 2 ^ 32) × (changeAt i + changeSize ≤ length (now out)) × (e .live < 2 ^ 32) ⌝ }
     ensures { λ _. ⌜ now (out .exit) ≡ splice (now (out .entry)) (changeAt i) (changeBytes e) ⌝ }
 {
     let account = e.account;
     let page = e.page;
+    let start = change_at(i);
     write(
         out,
-        change_at(i),
+        start,
         8,
         (account.0 as u64) + 65536 * (page.0 as u64) + 4294967296 * (e.live as u64),
+    );
+    write(
+        out,
+        start + 8,
+        4,
+        (e.depth as u64) + 65536 * (e.zero as u64),
     );
 }

@@ -1,6 +1,8 @@
 // The change list: header, entries in ascending order, pages.
+use super::copies::DEPTHS;
 use super::copies::FRAME_NUMBERS;
 use super::copies::Gathered;
+use super::copies::PAGE_CODES;
 use super::copies::gather;
 use super::entry::Change;
 use super::entry::put_change;
@@ -52,7 +54,7 @@ fn claimed_twice(order: &[u64], n: usize) -> bool
 {
     let mut i = 1;
     while i < n {
-        if order[i - 1] / FRAME_NUMBERS == order[i] / FRAME_NUMBERS {
+        if order[i - 1] / PAGE_CODES == order[i] / PAGE_CODES {
             return true;
         }
         i += 1;
@@ -77,9 +79,10 @@ fn write_change(s: &[u8], pool: &[u8], code: u64, out: &mut [u8], j: usize, n: u
     requires { ⌜ (j < n) × (n ≤ frameLimit) × (listTotal n ≤ length (now out)) ⌝ }
     ensures { λ _. ⌜ now (out .exit) ≡ splice (splice (now (out .entry)) (changeAt j) (codeEntry (now (s .entry)) code)) (pagesAt n + pageSize * j) (codePage (now (s .entry)) (now (pool .entry)) code) ⌝ }
 {
-    let account = Account((code / FRAME_NUMBERS / 65536) as u16);
-    let page = Page((code / FRAME_NUMBERS % 65536) as u16);
-    let f = Frame((code % FRAME_NUMBERS) as u16);
+    let account = Account((code / PAGE_CODES / 65536) as u16);
+    let page = Page((code / PAGE_CODES % 65536) as u16);
+    let f = Frame((code / DEPTHS % FRAME_NUMBERS) as u16);
+    let depth = (code % DEPTHS) as u16;
     let e = whole_account_entry(s, account);
     let live = live_bytes(e.data_length(), page);
     put_change(
@@ -89,6 +92,8 @@ fn write_change(s: &[u8], pool: &[u8], code: u64, out: &mut [u8], j: usize, n: u
             account,
             page,
             live,
+            depth,
+            zero: 0,
         },
     );
     let at = pages_at(n) + PAGE * j;

@@ -19,7 +19,7 @@ pub record EntryRange (e : FrameEntry) : Type 0 where
   pub tag : e .tag < 256
   pub account : e .account .0 < 65536
   pub page : e .page .0 < 65536
-  pub zero : e .zero < 65536
+  pub depth : e .depth < 65536
 
 -- an entry has 8 bytes
 pub length-entry-bytes : (e : FrameEntry) → length (frameEntryBytes e) ≡ 8
@@ -28,7 +28,7 @@ length-entry-bytes e = refl
 
 -- an entry of zeros is in range
 pub zero-range : EntryRange zeroEntry
-zero-range = record { usage = omega arith; tag = omega arith; account = omega arith; page = omega arith; zero = omega arith }
+zero-range = record { usage = omega arith; tag = omega arith; account = omega arith; page = omega arith; depth = omega arith }
 
 -- an entry of bytes is in range
 pub entry-range : (c : List ℕ) → ((k : ℕ) → getD c k 0 < 256) → (i : ℕ) → EntryRange (frameEntryOf c i)
@@ -39,7 +39,7 @@ entry-range c h i =
       tag = word-fits 1 c (frameEntryAt i + 1) h;
       account = word-fits 2 c (frameEntryAt i + 2) h;
       page = word-fits 2 c (frameEntryAt i + 4) h;
-      zero = word-fits 2 c (frameEntryAt i + 6) h;
+      depth = word-fits 2 c (frameEntryAt i + 6) h;
     }
 
 module _ (c : List ℕ) (i : ℕ) (e : FrameEntry) where
@@ -83,5 +83,5 @@ module _ (c : List ℕ) (i : ℕ) (e : FrameEntry) where
       let t : frameField 1 1 (putFrameEntry c i e) i ≡ e .tag = field-same 1 1 (omega arith) l ∙ omega arith in
       let a : frameField 2 2 (putFrameEntry c i e) i ≡ e .account .0 = field-same 2 2 (omega arith) l ∙ omega arith in
       let p : frameField 2 4 (putFrameEntry c i e) i ≡ e .page .0 = field-same 2 4 (omega arith) l ∙ omega arith in
-      let z : frameField 2 6 (putFrameEntry c i e) i ≡ e .zero = field-same 2 6 (omega arith) l ∙ omega arith in
+      let z : frameField 2 6 (putFrameEntry c i e) i ≡ e .depth = field-same 2 6 (omega arith) l ∙ omega arith in
       rw (u, t, a, p, z)

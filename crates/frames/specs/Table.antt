@@ -1,4 +1,4 @@
--- Document 01, "Three lent buffers": the ledger's frame table, and "Copies", with document 02, "Seven". Assumes nothing.
+-- Document 01, "Three lent buffers": the ledger's frame table, and "Copies", with document 02, "Seven" and "Eight". Assumes nothing.
 use Prim.Native.Nat.{ℕ, _+_, _*_}
 use mathlib.Core.Bool.{Bool, true, false}
 use mathlib.Core.List.{List, _++_}
@@ -18,7 +18,8 @@ use Rattle.frames.specs.declared.claim.End.the-variants.{Lowest, Highest
 use Rattle.frames.specs.declared.claim.Found.{Found}
 use Rattle.frames.specs.declared.claim.Found.the-variants.{At, Nothing}
 
--- ---- entries: "a use byte .., a tag byte, u16 account, u16 page, u16 zero"
+-- ---- entries: "a use byte .., a tag byte, u16 account, u16 page, u16 zero", which "becomes, for copies, the depth at the store that made the
+-- copy; stack and heap keep 0"
 
 -- where entry i starts
 abbrev pub frameEntryAt : ℕ → ℕ
@@ -40,13 +41,13 @@ frameEntryOf c i =
       tag = frameField 1 1 c i;
       account = record { 0 = frameField 2 2 c i };
       page = record { 0 = frameField 2 4 c i };
-      zero = frameField 2 6 c i;
+      depth = frameField 2 6 c i;
     }
 
 -- an entry's bytes
 unfoldable pub frameEntryBytes : FrameEntry → List ℕ
 frameEntryBytes e =
-    wordBytes 1 (e .usage) ++ (wordBytes 1 (e .tag) ++ (wordBytes 2 (e .account .0) ++ (wordBytes 2 (e .page .0) ++ wordBytes 2 (e .zero))))
+    wordBytes 1 (e .usage) ++ (wordBytes 1 (e .tag) ++ (wordBytes 2 (e .account .0) ++ (wordBytes 2 (e .page .0) ++ wordBytes 2 (e .depth))))
 
 -- the control block with entry i anew
 unfoldable pub putFrameEntry : List ℕ → ℕ → FrameEntry → List ℕ
@@ -54,7 +55,7 @@ putFrameEntry c i e = splice c (frameEntryAt i) (frameEntryBytes e)
 
 -- an entry of zeros
 abbrev pub zeroEntry : FrameEntry
-zeroEntry = record { usage = 0; tag = 0; account = record { 0 = 0 }; page = record { 0 = 0 }; zero = 0 }
+zeroEntry = record { usage = 0; tag = 0; account = record { 0 = 0 }; page = record { 0 = 0 }; depth = 0 }
 
 -- "Freeing zeroes the entry and leaves the pool bytes."
 abbrev pub freeFrameEntry : List ℕ → ℕ → List ℕ

@@ -11,13 +11,13 @@ ghost use Prim.Native.Nat.{_+_, _≤_};
 ghost use lib.ListN.{length};
 ghost use Rattle.frames.specs.Table.{frameEntryAt, frameEntryOf, putFrameEntry, freeFrameEntry, entryEnd};
 
-// A frame entry.
+// A frame entry. The depth is a copy's: that at the store that made it.
 pub struct FrameEntry {
     pub usage: u8,
     pub tag: u8,
     pub account: Account,
     pub page: Page,
-    pub zero: u16,
+    pub depth: u16,
 }
 
 // Where a frame's entry starts.
@@ -46,7 +46,7 @@ pub fn entry_at(c: &[u8], i: usize) -> FrameEntry
         tag: c[at + 1],
         account: Account(u16_at(c, at + 2)),
         page: Page(u16_at(c, at + 4)),
-        zero: u16_at(c, at + 6),
+        depth: u16_at(c, at + 6),
     }
 }
 
@@ -64,7 +64,7 @@ pub fn put_frame_entry(c: &mut [u8], f: Frame, e: FrameEntry)
     ensures { λ _. ⌜ now (c .exit) ≡ putFrameEntry (now (c .entry)) (f .0) e ⌝ }
 {
     let low = (e.usage as u64) + 256 * (e.tag as u64) + 65536 * (e.account.0 as u64);
-    let high = (e.page.0 as u64) + 65536 * (e.zero as u64);
+    let high = (e.page.0 as u64) + 65536 * (e.depth as u64);
     write(c, frame_entry_at(f), 8, low + 4294967296 * high);
 }
 

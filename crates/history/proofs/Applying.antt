@@ -64,7 +64,7 @@ page-byte s r k j h =
 module _ (s : List ℕ) (b : Buffers) (r : Replay) (g : Good s b r) (out : List ℕ) (room : listTotal (length (touchedKeys r)) ≤ length out) where
   -- the buffer with the list
   abbrev list : List ℕ
-  list = listIn out s (plainPage s r) (touchedKeys r)
+  list = listIn out s (r .first) (plainPage s r) (touchedKeys r)
 
   -- key i
   abbrev key : ℕ → ℕ
@@ -72,7 +72,7 @@ module _ (s : List ℕ) (b : Buffers) (r : Replay) (g : Good s b r) (out : List 
 
   -- what is read of the list
   back : ReadBack list s (plainPage s r) (touchedKeys r)
-  back = read-back s (plainPage s r) (touchedKeys r) out (length-page s r) (touched-few s b r g) room
+  back = read-back s (r .first) (plainPage s r) (touchedKeys r) out (length-page s r) (touched-few s b r g) room
 
   -- the layout is exact
   layout-right : layoutExact list ≡ true
@@ -133,6 +133,7 @@ module _ (s : List ℕ) (b : Buffers) (r : Replay) (g : Good s b r) (out : List 
     change-right i h =
         rw (
           ascends-right i h,
+          back .ends i h,
           live-is i h,
           account-is i h,
           page-is i h,

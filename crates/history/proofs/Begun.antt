@@ -87,6 +87,11 @@ module _ (s : List ℕ) (size : ℕ) (p : List ℕ) (x : Start) (e : beginCheck 
         live = λ a q i l h. absurd (differ _ h (none a q i));
         held = λ a q i l h. absurd (differ _ h (none a q i));
         kept = λ a q l m t k n. refl;
+        deep =
+            record {
+              current = sym (fresh-invocations size (length p) x (facts .room) fits);
+              taken = λ a q i l h. absurd (differ _ h (none a q i));
+            };
       }
 
   -- and once its stack is resized

@@ -1,13 +1,13 @@
 -- A call and a return keep the invariant: a call writes one record more, and a return frees stack frames, hands its heap over and goes back to a
 -- record that is live. Assumes nothing.
-use Prim.Native.Nat.{ℕ, _+_, _-_, _≤_, _<_}
-use mathlib.Core.Path.{_≡_, refl}
+use Prim.Native.Nat.{ℕ, suc, _+_, _-_, _≤_, _<_}
+use mathlib.Core.Path.{_≡_, refl, sym, _∙_}
 use mathlib.Core.List.{List}
 use native.Mathlib.Decide.{decLt, ℕ-discrete}
 use native.Mathlib.Omega.{arith}
 use lib.ListN.{length}
 use Rattle.choice.proofs.Tests.{by-test}
-use Rattle.refusal.proofs.Checks.{by-check}
+use Rattle.refusal.proofs.Checks.{check-passed}
 use Rattle.refusal.specs.declared.Check.the-variants.{Pass}
 use Rattle.snapshot.specs.Header.{accounts}
 use Rattle.snapshot.specs.declared.accounts.Account.{Account}
@@ -16,15 +16,18 @@ use Rattle.control.proofs.Facts.{CurrentFacts, current-facts}
 use Rattle.control.specs.Buffers.{Buffers}
 use Rattle.frames.specs.Table.{frameEntryOf}
 use Rattle.frames.proofs.Entries.{EntryRange, zero-range}
-use Rattle.invoke.specs.Invoke.{callCheck, called, callControl, returnCheck, leaves, returned, returnControl}
+use Rattle.frames.proofs.Claims.{claims-holds}
+use Rattle.invoke.specs.Invoke.{callCheck, called, callNumber, callControl, returnCheck, leaves, returned, returnNumber, returnControl}
 use Rattle.invoke.proofs.Accepted.{CallFacts, call-facts, ReturnFacts, return-facts, program-known, program-fits}
 use Rattle.invoke.proofs.Depth.{called-frames, called-invocations, called-valid, called-entry, called-invocation, called-new, returned-frames, returned-invocations, returned-valid, returned-entry, returned-copy, returned-invocation, returned-caller}
+use Rattle.invoke.proofs.Freed.{copy-stays}
 use Rattle.regions.proofs.Pages.{claims-ext}
 use Rattle.hekthumar.specs.Steps.{call, return, stepOf}
 use Rattle.history.specs.Calls.{accepted, effect}
-use Rattle.history.specs.Replay.{Replay, replayEffect}
+use Rattle.history.specs.Replay.{Replay, atDepth, replayEffect}
 use Rattle.history.proofs.Good.{copyOf, LiveRecord, Good}
-use Rattle.history.proofs.Others.{GoodAfter, keep-other, record-same, records-valid, replay-stays}
+use Rattle.history.proofs.Others.{GoodAfter, keep-other, record-same, records-valid}
+use Rattle.history.proofs.Refused.{keep-refused}
 
 module _ {s : List ℕ} {b : Buffers} {r : Replay} (g : Good s b r) where
   -- the control block
@@ -55,7 +58,7 @@ module _ {s : List ℕ} {b : Buffers} {r : Replay} (g : Good s b r) where
         ]
 
     -- the invariant holds after it
-    called-good : Good s (record { control = called c a registers; pool = b .pool }) r
+    called-good : Good s (record { control = called c a registers; pool = b .pool }) (atDepth r (suc (r .depth)))
     called-good =
         let f = call-shows in
         let w = f .buffers .control in
@@ -63,17 +66,20 @@ module _ {s : List ℕ} {b : Buffers} {r : Replay} (g : Good s b r) where
         let x = called-entry c a registers w (f .below) (f .registers) in
         let v = called-valid c a registers w (f .below) (f .registers) in
         keep-other g (record { control = called c a registers; pool = b .pool }) (λ i l. rw (x i) (g .ranged i l))
-        (λ d q i l. claims-ext c (called c a registers) (copyOf d q) i (x i))
+        (λ d q i l. claims-ext c (called c a registers) (copyOf d q) i (x i)) (λ d q i l h. x i)
         (λ d q i l h k m. refl)
         (records-valid s (called c a registers) (b .pool) (f .buffers .snapshot) v (rw n (f .buffers .pool)) called-record)
-        called-record n
+        called-record n (suc (r .depth)) (omega (arith, g .deep .current, called-invocations c a registers w (f .below) (f .registers)))
 
-  -- a call keeps the invariant
+  -- a call keeps the invariant, one deeper if it is accepted
   pub keep-call : (a : Account) (registers : List ℕ) → GoodAfter s b r (call a registers)
-  unfolding stepOf callControl effect replayEffect
+  unfolding stepOf callNumber callControl effect replayEffect
   keep-call a registers =
-      replay-stays (call a registers) refl (accepted s b (call a registers))
-      (by-check (callCheck s c (b .pool) a (length registers)) (λ e. rw e (called-good a registers e)) (λ n e. rw e g))
+      by-test (accepted s b (call a registers))
+      (λ e.
+      let n : callCheck s c (b .pool) a (length registers) ≡ Pass = check-passed _ e in
+      rw (e, n) (called-good a registers n))
+      (λ e. keep-refused g (call a registers) e)
 
   -- ---- a return
 
@@ -104,20 +110,25 @@ module _ {s : List ℕ} {b : Buffers} {r : Replay} (g : Good s b r) where
         (by-test (leaves (depth c) (frameEntryOf c i)) (λ t. rw t zero-range) (λ t. rw t (g .ranged i l)))
 
     -- the invariant holds after it
-    returned-good : Good s (record { control = returned c; pool = b .pool }) r
+    returned-good : Good s (record { control = returned c; pool = b .pool }) (atDepth r (r .depth - 1))
     returned-good =
         let f = return-shows in
         let w = f .buffers .control in
         let n = returned-frames c w (f .above) in
         keep-other g (record { control = returned c; pool = b .pool }) returned-range
         (λ d q i l. returned-copy c w (f .above) (record { 0 = d }) (record { 0 = q }) i)
+        (λ d q i l h.
+        returned-entry c w (f .above) i l ∙ rw (copy-stays (depth c) _ _ (frameEntryOf c i) (sym (claims-holds c i (copyOf d q)) ∙ h)))
         (λ d q i l h k m. refl)
         (records-valid s (returned c) (b .pool) (f .buffers .snapshot) (returned-valid c w (f .above)) (rw n (f .buffers .pool)) returned-record)
-        returned-record n
+        returned-record n (r .depth - 1) (omega (arith, g .deep .current, returned-invocations c w (f .above), f .above))
 
-  -- a return keeps the invariant
+  -- a return keeps the invariant, one less deep if it is accepted
   pub keep-return : (registers : List ℕ) → GoodAfter s b r (return registers)
-  unfolding stepOf returnControl effect replayEffect
+  unfolding stepOf returnNumber returnControl effect replayEffect
   keep-return registers =
-      replay-stays (return registers) refl (accepted s b (return registers))
-      (by-check (returnCheck s c (b .pool) (length registers)) (λ e. rw e (returned-good (length registers) e)) (λ n e. rw e g))
+      by-test (accepted s b (return registers))
+      (λ e.
+      let n : returnCheck s c (b .pool) (length registers) ≡ Pass = check-passed _ e in
+      rw (e, n) (returned-good (length registers) n))
+      (λ e. keep-refused g (return registers) e)

@@ -36,7 +36,7 @@ module _ (s c p : List ℕ) where
   place-edition (InControl at) = refl
   place-edition Zeros = refl
   place-edition (InPool at) = refl
-  place-edition (Take t) = table-edition (table-put c (t .frame .0) (copyEntry t))
+  place-edition (Take t) = table-edition (table-put c (t .frame .0) (copyEntry c t))
 
   after-edition : (t : Translation) → edition (controlAfter c t) ≡ edition c
   after-edition (Allowed q) = place-edition q

@@ -14,13 +14,13 @@ use Rattle.frames.proofs.Entries.{EntryRange}
 use Rattle.frames.specs.declared.claim.End.the-variants.{Highest}
 use Rattle.frames.proofs.Free.{free-found}
 use Rattle.segments.specs.Kinds.{kindStore, kindStoreSpan}
-use Rattle.translate.specs.declared.place.NewCopy.{NewCopy}
 use Rattle.translate.specs.Translate.{translateOf}
 use Rattle.translate.specs.declared.place.Place.the-variants.{InSnapshot, InControl, Zeros, InPool, Take}
 use Rattle.translate.specs.declared.place.Translation.{Translation}
 use Rattle.translate.specs.declared.place.Translation.the-variants.{Allowed, Refused}
 use Rattle.translate.proofs.Accepted.{accepted}
-use Rattle.translate.proofs.Stores.{Taken, take-place}
+use Rattle.translate.proofs.Stores.{take-place}
+use Rattle.access.proofs.Entry.{copy-range}
 use Rattle.access.specs.Stores.{copyEntry, controlAfter, storeControl}
 use Rattle.invoke.specs.declared.begin.Start.{Start}
 use Rattle.invoke.specs.Invoke.{beginNumber, beginControl, beginCheck}
@@ -38,12 +38,6 @@ use Rattle.history.specs.Claims.{FrameCountRule}
 use Rattle.history.proofs.Counted.{touched-count}
 use Rattle.history.proofs.Theorem.{good-after}
 
--- a copy's entry fits its widths
-copy-range : (c : List ℕ) (kind a : ℕ) (n : NewCopy) → Taken c kind a n → EntryRange (copyEntry n)
-copy-range c kind a n t =
-    rw (t .account, t .page)
-    (record { usage = omega arith; tag = omega arith; account = omega arith; page = omega arith; zero = omega arith })
-
 module _ (s c p : List ℕ) (kind a n : ℕ) (h : Rights c) where
   -- a store changes at most a free entry, into a copy's
   stored : (t : Translation) → translateOf s c p kind a n ≡ t → Rights (controlAfter c t)
@@ -56,7 +50,8 @@ module _ (s c p : List ℕ) (kind a n : ℕ) (h : Rights c) where
       let u = take-place s c p kind a n e in
       let v = buffers-facts s c p (accepted s c p kind a n e refl .buffers) in
       let free = free-found c Highest (t .frame) (u .free) in
-      copied-right c (t .frame .0) (copyEntry t) (v .control) (free .below) (free .passes) (copy-range c kind a t u) refl h
+      let range : EntryRange (copyEntry c t) = copy-range c t (v .control) (rw (u .account) (omega arith)) (rw (u .page) (omega arith)) in
+      copied-right c (t .frame .0) (copyEntry c t) (v .control) (free .below) (free .passes) range refl h
 
 -- every call keeps the invariant of stack and heap
 keep-rights : (s : List ℕ) (b : Buffers) → Rights (b .control) → (k : Call) → Rights (stepOf s b k .after .control)

@@ -1,6 +1,6 @@
 -- The invariant of a history: what holds between the working buffers and the replay after every call from an accepted begin on.
 -- Assumes nothing.
-use Prim.Native.Nat.{ℕ, _+_, _*_, _≤_, _<_}
+use Prim.Native.Nat.{ℕ, suc, _+_, _*_, _≤_, _<_}
 use mathlib.Core.Path.{_≡_}
 use mathlib.Core.Bool.{true, false}
 use mathlib.Core.List.{List}
@@ -33,6 +33,11 @@ pub record LivePage (s : List ℕ) (a p : ℕ) : Type 0 where
   pub entry : entryValid s (record { 0 = a }) ≡ true
   pub present : pageSize * p < dataLength (entryOf s (record { 0 = a }))
 
+-- the depths that the replay keeps are those of the control block: the current one, and of each copy that at the first store to its page
+pub record Deep (c : List ℕ) (r : Replay) : Type 0 where
+  pub current : suc (r .depth) ≡ invocations c
+  pub taken : (a p i : ℕ) → i < frames c → claims c (copyOf a p) i ≡ true → frameEntryOf c i .depth ≡ r .first (keyOf a p)
+
 pub record Good (s : List ℕ) (b : Buffers) (r : Replay) : Type 0 where
   -- headers, lengths and record D
   pub buffers : buffersValid s (b .control) (b .pool) ≡ true
@@ -56,3 +61,5 @@ pub record Good (s : List ℕ) (b : Buffers) (r : Replay) : Type 0 where
   -- a page that has none is as the original
   pub kept : (a p : ℕ) → a < 65536 → p < 65536 → r .touched (keyOf a p) ≡ false → (k : ℕ) → k < pageSize
       → getD (r .plain a) (pageSize * p + k) 0 ≡ getD (original s (record { 0 = a })) (pageSize * p + k) 0
+  -- the depths are the replay's
+  pub deep : Deep (b .control) r

@@ -29,8 +29,9 @@ use Rattle.frames.specs.declared.claim.Found.{Found}
 use Rattle.frames.specs.declared.claim.Found.the-variants.{At, Nothing}
 use Rattle.frames.proofs.Found.{First}
 use Rattle.frames.proofs.Claims.{copy-claims, frame-found, frame-none}
-use Rattle.changes.specs.Keys.{keyAccount, keyPage, keyClaim, keyLimit, isCopied, copyKeys}
-use Rattle.changes.specs.List.{padded, listBytes, pageBytes, changeList, claimedBefore, copyListable, listable, listCheck, changeListNumber, changeListOut}
+use Rattle.changes.specs.Keys.{keyOf, keyAccount, keyPage, keyClaim, keyLimit, isCopied, copyKeys}
+use Rattle.changes.specs.Entry.{changeBytes, changeOf}
+use Rattle.changes.specs.List.{padded, listBytes, pageBytes, copyDepth, changeList, claimedBefore, copyListable, listable, listCheck, changeListNumber, changeListOut}
 use Rattle.changes.proofs.Written.{joined-ext}
 use Rattle.history.specs.Replay.{Replay, touchedKeys, plainPage, expectedList}
 use Rattle.history.specs.Claims.{ListRight}
@@ -126,6 +127,14 @@ module _ (s : List ℕ) (b : Buffers) (r : Replay) (g : Good s b r) where
       (bytesAt-ext pageSize (b .pool) (r .plain (k / 65536)) (pageSize * f .frame) (pageSize * (k % 65536))
       (g .held (k / 65536) (k % 65536) (f .frame) (f .below) (f .claimed))))
 
+  -- the depth that its entry holds is the replay's
+  pub depth-right : (k : ℕ) → k < keyLimit → r .touched k ≡ true → copyDepth (b .control) k ≡ r .first k
+  unfolding copyDepth
+  depth-right k l t =
+      let f : Framed (b .control) k = touched-framed k l t in
+      let e : keyOf (k / 65536) (k % 65536) ≡ k = omega arith in
+      rw (f .found) (rw e at (g .deep .taken (k / 65536) (k % 65536) (f .frame) (f .below) (f .claimed)))
+
   -- a key of the list is touched
   pub key-touched : (k : ℕ) → Member k (touchedKeys r) → (k < keyLimit) × (r .touched k ≡ true)
   unfolding touchedKeys
@@ -137,6 +146,8 @@ module _ (s : List ℕ) (b : Buffers) (r : Replay) (g : Good s b r) where
   changes-right =
       rw (
         keys-right,
+        joined-ext (λ k. changeBytes (changeOf s (copyDepth (b .control)) k)) (λ k. changeBytes (changeOf s (r .first) k)) (touchedKeys r)
+            (λ k m. let t = key-touched k m in rw (depth-right k (t .0) (t .1))),
         joined-ext (pageBytes s (b .control) (b .pool)) (plainPage s r) (touchedKeys r)
             (λ k m. let t = key-touched k m in page-right k (t .0) (t .1)),
       )

@@ -1,6 +1,6 @@
 -- A call that changes no copy and no frame of a copy keeps the invariant: one law for all of them, one for those that write only the frame
 -- table, and one for those that write nothing. Assumes nothing.
-use Prim.Native.Nat.{ℕ, _+_, _*_, _/_, _%_, _≤_, _<_}
+use Prim.Native.Nat.{ℕ, suc, _+_, _*_, _/_, _%_, _≤_, _<_}
 use mathlib.Core.Path.{_≡_, sym, ap, _∙_}
 use mathlib.Core.Bool.{Bool, true, false}
 use mathlib.Core.List.{List}
@@ -13,13 +13,14 @@ use Rattle.control.proofs.Facts.{ControlFacts, buffers-facts, control-facts, bu
 use Rattle.control.proofs.Kept.{buffers-kept}
 use Rattle.control.specs.Buffers.{Buffers}
 use Rattle.frames.specs.Table.{frameEntryOf, claims, isFound}
+use Rattle.frames.specs.declared.table.FrameEntry.{FrameEntry}
 use Rattle.frames.proofs.Entries.{EntryRange}
 use Rattle.frames.proofs.Claims.{frame-ext}
 use Rattle.frames.proofs.OnlyTable.{OnlyTable, table-frames, table-invocations, table-invocation}
 use Rattle.changes.specs.Keys.{keyClaim, isCopied}
 use Rattle.hekthumar.specs.Steps.{Call, stepOf}
 use Rattle.history.specs.Calls.{accepted, effect}
-use Rattle.history.specs.Replay.{Replay, replayEffect, replayStep}
+use Rattle.history.specs.Replay.{Replay, atDepth, replayEffect, replayStep}
 use Rattle.history.proofs.Good.{copyOf, LiveRecord, Good}
 
 -- the invariant holds after a call
@@ -47,7 +48,7 @@ records-valid s c p v w l records =
       current = current-valid c _ (record { program-known = d .program; few-stack = d .stack; few-heap = d .heap });
     })
 
--- ---- a call that changes no copy: entries in range, each copy's claims as they were, and the bytes of its frame
+-- ---- a call that changes no copy: entries in range, each copy's claims and entry as they were, and the bytes of its frame
 
 -- where the claims of copies stay, the same pages are copied
 pub copied-same : (c c′ : List ℕ) → frames c′ ≡ frames c
@@ -59,6 +60,8 @@ copied-same c c′ count same k = ap isFound (frame-ext c (keyClaim k) c′ coun
 module _ {s : List ℕ} {b : Buffers} {r : Replay} (g : Good s b r) (b′ : Buffers)
     (ranged : (i : ℕ) → i < frames (b .control) → EntryRange (frameEntryOf (b′ .control) i))
     (same : (a p i : ℕ) → i < frames (b .control) → claims (b′ .control) (copyOf a p) i ≡ claims (b .control) (copyOf a p) i)
+    (entries : (a p i : ℕ) → i < frames (b .control) → claims (b .control) (copyOf a p) i ≡ true
+    → frameEntryOf (b′ .control) i ≡ frameEntryOf (b .control) i)
     (bytes : (a p i : ℕ) → i < frames (b .control) → claims (b .control) (copyOf a p) i ≡ true → (k : ℕ) → k < pageSize
     → getD (b′ .pool) (pageSize * i + k) 0 ≡ getD (b .pool) (pageSize * i + k) 0) where
   -- what a copy claims now, it claimed
@@ -66,12 +69,13 @@ module _ {s : List ℕ} {b : Buffers} {r : Replay} (g : Good s b r) (b′ : Buff
       → claims (b .control) (copyOf a p) i ≡ true
   before a p i l h = sym (same a p i l) ∙ h
 
-  -- where the buffers are valid and the live records right, the invariant holds of the new buffers
+  -- where the buffers are valid and the live records right, the invariant holds of the new buffers, at the depth that they have
   pub keep-other : buffersValid s (b′ .control) (b′ .pool) ≡ true
       → ((k : ℕ) → 1 ≤ k → k ≤ invocations (b′ .control) → LiveRecord s (b′ .control) k)
       → frames (b′ .control) ≡ frames (b .control)
-      → Good s b′ r
-  keep-other valid records count =
+      → (d : ℕ) → suc d ≡ invocations (b′ .control)
+      → Good s b′ (atDepth r d)
+  keep-other valid records count d deeper =
       record {
         buffers = valid;
         records = records;
@@ -82,6 +86,14 @@ module _ {s : List ℕ} {b : Buffers} {r : Replay} (g : Good s b r) (b′ : Buff
         live = rw count (λ a p i l h. g .live a p i l (before a p i l h));
         held = rw count (λ a p i l h k m. bytes a p i l (before a p i l h) k m ∙ g .held a p i l (before a p i l h) k m);
         kept = g .kept;
+        deep =
+            record {
+              current = deeper;
+              taken =
+                  rw count
+                  (λ a p i l h.
+                  ap (λ (e : FrameEntry). e .depth) (entries a p i l (before a p i l h)) ∙ g .deep .taken a p i l (before a p i l h));
+            };
       }
 
   -- so it does where only the frame table and the pool were written
@@ -92,7 +104,7 @@ module _ {s : List ℕ} {b : Buffers} {r : Replay} (g : Good s b r) (b′ : Buff
       (λ k l m.
       let n : k ≤ invocations (b .control) = omega (arith, table-invocations only) in
       record-same (table-invocation only k (omega arith)) (g .records k l n))
-      (table-frames only)
+      (table-frames only) (r .depth) (g .deep .current ∙ sym (table-invocations only))
 
 -- ---- a call that the replay passes over
 

@@ -30,7 +30,7 @@ use Rattle.frames.proofs.Claims.{free-claims}
 use Rattle.regions.specs.Resize.{pageAt, grown, growCheck, growTo, shrunk, shrinkCheck, shrinkControl, resizeTo, resizeCheck, regionOf, resizeOf}
 use Rattle.regions.proofs.Pages.{page-below, page-range}
 use Rattle.regions.proofs.Grown.{grown-only, grown-pool, grown-kept, grown-either, grown-copies}
-use Rattle.regions.proofs.Shrunk.{shrunk-only, shrunk-copies, shrunk-kept, shrunk-freed, among-or}
+use Rattle.regions.proofs.Shrunk.{shrunk-only, shrunk-copy, shrunk-copies, shrunk-kept, shrunk-freed, among-or}
 use Rattle.hekthumar.specs.Steps.{resize, stepOf}
 use Rattle.history.specs.Calls.{accepted, effect}
 use Rattle.history.specs.Replay.{Replay, replayEffect}
@@ -119,10 +119,10 @@ module _ {s : List ℕ} {r : Replay} {b : Buffers} (g : Good s b r) where
         let f : frames (setPages c d q n) ≡ frames c = header-kept d o 4 0 (omega arith) in
         keep-other g (record { control = setPages c d q n; pool = p })
         (λ i l. rw (entry-above c _ (wordBytes 2 n) below i) (g .ranged i l))
-        (λ a t i l. claims-above c _ (wordBytes 2 n) below i (copyOf a t))
+        (λ a t i l. claims-above c _ (wordBytes 2 n) below i (copyOf a t)) (λ a t i l h. entry-above c _ (wordBytes 2 n) below i)
         (λ a t i l h k m. refl)
         (records-valid s (setPages c d q n) p (facts .snapshot) (record-valid d o ∙ facts .control) (rw f (facts .pool)) sized-record)
-        sized-record f
+        sized-record f (r .depth) (g .deep .current ∙ sym (header-kept d o 4 4 (omega arith)))
 
   -- ---- growing
 
@@ -145,6 +145,7 @@ module _ {s : List ℕ} {r : Replay} {b : Buffers} (g : Good s b r) where
     grown-good =
         keep-table g (record { control = grown q k c p n .control; pool = grown q k c p n .pool }) grown-range
         (λ a t i l. grown-copies q k c p (facts .control) (facts .pool) n few free (record { 0 = a }) (record { 0 = t }) i)
+        (λ a t i l h. grown-kept q k c p (facts .control) n few free i (claimed-used a t i h) .entry)
         (λ a t i l h. frame-byte p _ i (grown-kept q k c p (facts .control) n few free i (claimed-used a t i h) .bytes))
         (grown-only q k c p n) (grown-pool q k c p n)
 
@@ -162,6 +163,7 @@ module _ {s : List ℕ} {r : Replay} {b : Buffers} (g : Good s b r) where
     shrunk-good =
         keep-table g (record { control = shrunk c q k n; pool = p }) shrunk-range
         (λ a t i l. shrunk-copies c q k (facts .control) n (record { 0 = a }) (record { 0 = t }) i)
+        (λ a t i l h. shrunk-copy c q k (facts .control) n (record { 0 = a }) (record { 0 = t }) i h)
         (λ a t i l h m o. refl)
         (shrunk-only c q k n) refl
 

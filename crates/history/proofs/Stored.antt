@@ -3,7 +3,7 @@
 use Prim.Native.Nat.{ℕ, _+_, _*_, _/_, _%_, _≤_, _<_}
 use mathlib.Core.Path.{_≡_, refl, sym, ap, _∙_, fun-ext}
 use mathlib.Core.Logic.{_≢_}
-use mathlib.Core.Bool.{Bool, true, false}
+use mathlib.Core.Bool.{Bool, true, false, not}
 use mathlib.Core.List.{List}
 use native.Mathlib.Nat.{div-add-mod}
 use native.Mathlib.Decide.{ℕ-discrete}
@@ -15,7 +15,7 @@ use Rattle.layout.specs.Page.{pageSize}
 use Rattle.layout.specs.Control.{liveLimit, usageCopy}
 use Rattle.words.specs.Words.{splice}
 use Rattle.words.proofs.Splice.{length-splice}
-use Rattle.choice.specs.Choice.{pick, either}
+use Rattle.choice.specs.Choice.{pick, both, either}
 use Rattle.choice.proofs.Tests.{by-test, differ}
 use Rattle.address.specs.Address.{typeOf, indexOf, offsetOf}
 use Rattle.snapshot.specs.Accounts.{entryOf, dataLength, original}
@@ -31,6 +31,7 @@ use Rattle.frames.specs.declared.claim.Claim.the-variants.{Copy}
 use Rattle.frames.specs.Table.{entryEnd, frameEntryOf, usageOf, holds, claims, isFree, frameOf}
 use Rattle.frames.specs.declared.claim.Claim.{Claim}
 use Rattle.frames.specs.declared.claim.Found.the-variants.{Nothing}
+use Rattle.frames.specs.declared.table.FrameEntry.{FrameEntry}
 use Rattle.frames.proofs.Entries.{EntryRange, entry-same, entry-other}
 use Rattle.frames.proofs.Untouched.{frames-kept, invocations-kept, invocation-kept, buffers-valid-kept}
 use Rattle.frames.proofs.Claims.{holds-copy, copy-holds, claims-copy, claims-page, claims-one, claims-same, claims-other, free-claims, frame-found, frame-none, frame-taken, frame-kept}
@@ -44,6 +45,7 @@ use Rattle.translate.specs.declared.place.Translation.the-variants.{Allowed}
 use Rattle.translate.proofs.Accepted.{DataAccess, accepted, data-accepted}
 use Rattle.translate.proofs.Stores.{StorePlace, into-copy, into-new, into-region, store-place}
 use Rattle.access.specs.Stores.{preparedControl, storedAt, copyEntry, takenControl, takenPool}
+use Rattle.access.proofs.Entry.{copy-range}
 use Rattle.access.proofs.Seen.{copied-byte}
 use Rattle.changes.specs.Keys.{keyOf, keyLimit, keyClaim, isCopied}
 use Rattle.history.specs.Replay.{Replay, stored}
@@ -68,7 +70,12 @@ buffers-spliced s c p at bs h = rw (length-splice p at bs) h
 -- the replay with bytes put into page p of account a, from its byte w on
 abbrev pub put : Replay → ℕ → ℕ → ℕ → List ℕ → Replay
 put r a p w bs =
-    record { plain = λ i. pick (eqb i a) (splice (r .plain i) (pageSize * p + w) bs) (r .plain i); touched = r .touched }
+    record {
+      plain = λ i. pick (eqb i a) (splice (r .plain i) (pageSize * p + w) bs) (r .plain i);
+      touched = r .touched;
+      depth = r .depth;
+      first = r .first;
+    }
 
 module _ (r : Replay) (a p w : ℕ) (bs : List ℕ) (d : ℕ) where
   -- each copy keeps its length
@@ -118,13 +125,24 @@ module _ {s : List ℕ} {b : Buffers} {r : Replay} (g : Good s b r) (a p f w : �
         live = g .live;
         held = held-stored;
         kept = kept-stored;
+        deep = record { current = g .deep .current; taken = g .deep .taken };
       }
 
 -- ---- a page that gets its frame
 
--- the replay with page p of account a in the set
+-- the replay with page p of account a in the set, from this depth on if it was not there
 abbrev pub marked : Replay → ℕ → ℕ → Replay
-marked r a p = record { plain = r .plain; touched = λ k. either (eqb k (keyOf a p)) (r .touched k) }
+marked r a p =
+    record {
+      plain = r .plain;
+      touched = λ k. either (eqb k (keyOf a p)) (r .touched k);
+      depth = r .depth;
+      first = λ k. pick (both (eqb k (keyOf a p)) (not (r .touched k))) (r .depth) (r .first k);
+    }
+
+-- a page that was in the set keeps its depth
+first-same : (r : Replay) (a p k : ℕ) → r .touched k ≡ true → marked r a p .first k ≡ r .first k
+first-same r a p k h = by-test (eqb k (keyOf a p)) (λ e. rw (e, h)) (λ e. rw e)
 
 -- the buffers with the frame taken for the page
 abbrev pub copied : List ℕ → Buffers → NewCopy → Buffers
@@ -159,8 +177,8 @@ module _ {s : List ℕ} {b : Buffers} {r : Replay} (g : Good s b r) (t : NewCopy
   small-p : p < 65536
   small-p = omega (arith, page .present, data-short s (t .account) (page .entry))
 
-  range : EntryRange (copyEntry t)
-  range = record { usage = omega arith; tag = omega arith; account = small-a; page = small-p; zero = omega arith }
+  range : EntryRange (copyEntry (b .control) t)
+  range = copy-range (b .control) t (valid .control) small-a small-p
 
   slot : entryEnd f ≤ length (b .control)
   slot = omega (arith, control-facts (b .control) (valid .control) .size)
@@ -169,15 +187,15 @@ module _ {s : List ℕ} {b : Buffers} {r : Replay} (g : Good s b r) (t : NewCopy
   few = control-facts (b .control) (valid .control) .few-live
 
   same-frames : frames c′ ≡ frames (b .control)
-  same-frames = frames-kept (b .control) f (copyEntry t)
+  same-frames = frames-kept (b .control) f (copyEntry (b .control) t)
 
   -- the entry holds the page
-  holds-page : holds (copyOf a p) (copyEntry t) ≡ true
-  holds-page = copy-holds _ _ (copyEntry t) (record { usage = refl; account = refl; page = refl })
+  holds-page : holds (copyOf a p) (copyEntry (b .control) t) ≡ true
+  holds-page = copy-holds _ _ (copyEntry (b .control) t) (record { usage = refl; account = refl; page = refl })
 
   -- and claims what it holds
-  entry-claims : (x : Claim) → claims c′ x f ≡ holds x (copyEntry t)
-  entry-claims = claims-same (b .control) f (copyEntry t) range slot
+  entry-claims : (x : Claim) → claims c′ x f ≡ holds x (copyEntry (b .control) t)
+  entry-claims = claims-same (b .control) f (copyEntry (b .control) t) range slot
 
   -- the frame's new entry claims the page
   pub new-claim : claims (copied s b t .control) (copyOf a p) f ≡ true
@@ -189,9 +207,9 @@ module _ {s : List ℕ} {b : Buffers} {r : Replay} (g : Good s b r) (t : NewCopy
   claim-cases d q i c h o =
       elim (ℕ-discrete i f) [
         | yes e ↦
-            let u = holds-copy _ _ (copyEntry t) (sym (entry-claims (copyOf d q)) ∙ rw e at c) in
+            let u = holds-copy _ _ (copyEntry (b .control) t) (sym (entry-claims (copyOf d q)) ∙ rw e at c) in
             h e (sym (u .account)) (sym (u .page))
-        | no e ↦ o e (sym (claims-other (b .control) f (copyEntry t) (copyOf d q) i e) ∙ c)
+        | no e ↦ o e (sym (claims-other (b .control) f (copyEntry (b .control) t) (copyOf d q) i e) ∙ c)
       ]
 
   -- no entry claimed the page before
@@ -201,8 +219,8 @@ module _ {s : List ℕ} {b : Buffers} {r : Replay} (g : Good s b r) (t : NewCopy
   -- the shadow records stay
   records-copied : (k : ℕ) → 1 ≤ k → k ≤ invocations c′ → LiveRecord s c′ k
   records-copied k l h =
-      let m : k ≤ invocations (b .control) = rw (invocations-kept (b .control) f (copyEntry t)) at h in
-      let e = invocation-kept (b .control) f (copyEntry t) k (omega (arith, few)) in
+      let m : k ≤ invocations (b .control) = rw (invocations-kept (b .control) f (copyEntry (b .control) t)) at h in
+      let e = invocation-kept (b .control) f (copyEntry (b .control) t) k (omega (arith, few)) in
       let u = g .records k l m in
       record { program = rw e (u .program); stack = rw e (u .stack); heap = rw e (u .heap) }
 
@@ -210,8 +228,8 @@ module _ {s : List ℕ} {b : Buffers} {r : Replay} (g : Good s b r) (t : NewCopy
   ranged-copied : (i : ℕ) → i < frames c′ → EntryRange (frameEntryOf c′ i)
   ranged-copied i l =
       elim (ℕ-discrete i f) [
-        | yes e ↦ rw (e, entry-same (b .control) f (copyEntry t) range slot) range
-        | no e ↦ rw (entry-other (b .control) f (copyEntry t) i e) (g .ranged i (rw same-frames at l))
+        | yes e ↦ rw (e, entry-same (b .control) f (copyEntry (b .control) t) range slot) range
+        | no e ↦ rw (entry-other (b .control) f (copyEntry (b .control) t) i e) (g .ranged i (rw same-frames at l))
       ]
 
   -- the page has a frame now, and every other has one where it had
@@ -221,15 +239,15 @@ module _ {s : List ℕ} {b : Buffers} {r : Replay} (g : Good s b r) (t : NewCopy
       by-test (eqb k (keyOf a p))
       (λ e.
       let x : keyClaim k ≡ copyOf a p = ap keyClaim (eqb-true k (keyOf a p) e) ∙ key-claim a p small-a small-p in
-      rw (e, x, frame-taken (b .control) f (copyEntry t) range slot (copyOf a p) none low holds-page))
+      rw (e, x, frame-taken (b .control) f (copyEntry (b .control) t) range slot (copyOf a p) none low holds-page))
       (λ e.
-      let o : holds (keyClaim k) (copyEntry t) ≡ false =
-      by-test (holds (keyClaim k) (copyEntry t))
+      let o : holds (keyClaim k) (copyEntry (b .control) t) ≡ false =
+      by-test (holds (keyClaim k) (copyEntry (b .control) t))
       (λ y.
-      let u = holds-copy _ _ (copyEntry t) y in
+      let u = holds-copy _ _ (copyEntry (b .control) t) y in
       absurd (eqb-false k (keyOf a p) e (omega (arith, u .account, u .page))))
       (λ y. y) in
-      rw (e, frame-kept (b .control) f (copyEntry t) range slot (keyClaim k) (free-claims (b .control) f free (keyClaim k)) o)
+      rw (e, frame-kept (b .control) f (copyEntry (b .control) t) range slot (keyClaim k) (free-claims (b .control) f free (keyClaim k)) o)
       (g .claimed k h))
 
   -- no page is claimed twice
@@ -246,6 +264,10 @@ module _ {s : List ℕ} {b : Buffers} {r : Replay} (g : Good s b r) (t : NewCopy
   live-copied : (d q i : ℕ) → i < frames c′ → claims c′ (copyOf d q) i ≡ true → LivePage s d q
   live-copied d q i l c = claim-cases d q i c (λ e x y. rw (x, y) page) (λ e m. g .live d q i (rw same-frames at l) m)
 
+  -- the page was not in the set
+  new : r .touched (keyOf a p) ≡ false
+  new = touched-found g a p small-a small-p ∙ rw none
+
   -- the frame has the original bytes, which the plain copy has still; every other frame is as before
   held-copied : (d q i : ℕ) → i < frames c′ → claims c′ (copyOf d q) i ≡ true → (k : ℕ) → k < pageSize
       → getD (copied s b t .pool) (pageSize * i + k) 0 ≡ getD (r .plain d) (pageSize * q + k) 0
@@ -254,7 +276,7 @@ module _ {s : List ℕ} {b : Buffers} {r : Replay} (g : Good s b r) (t : NewCopy
       (λ e x y.
       rw (e, x, y)
       (copied-byte s (b .pool) t (omega (arith, pool-length g)) k n
-      ∙ sym (g .kept a p small-a small-p (touched-found g a p small-a small-p ∙ rw none) k n)))
+      ∙ sym (g .kept a p small-a small-p new k n)))
       (λ e m.
       let z : pageSize * f + 0 ≡ pageSize * f = omega arith in
       rw z at (elsewhere (b .pool) f 0 (originalPage s (t .account) (t .page)) (simp length-original-page (omega arith)) i k e n)
@@ -266,12 +288,24 @@ module _ {s : List ℕ} {b : Buffers} {r : Replay} (g : Good s b r) (t : NewCopy
   kept-copied d q hd hq y k n =
       by-test (eqb (keyOf d q) (keyOf a p)) (λ e. absurd (differ true refl (rw e at y))) (λ e. g .kept d q hd hq (rw e at y) k n)
 
+  -- each copy's entry holds the depth at the first store to its page: the new one's that of the current invocation
+  taken-copied : (d q i : ℕ) → i < frames c′ → claims c′ (copyOf d q) i ≡ true → frameEntryOf c′ i .depth ≡ marked r a p .first (keyOf d q)
+  taken-copied d q i l c =
+      claim-cases d q i c
+      (λ e x y.
+      rw (e, x, y)
+      (ap (λ (z : FrameEntry). z .depth) (entry-same (b .control) f (copyEntry (b .control) t) range slot)
+      ∙ rw (eq-eqb (keyOf a p) (keyOf a p) refl, new) (omega (arith, g .deep .current))))
+      (λ e m.
+      ap (λ (z : FrameEntry). z .depth) (entry-other (b .control) f (copyEntry (b .control) t) i e)
+      ∙ (g .deep .taken d q i (rw same-frames at l) m ∙ sym (first-same r a p (keyOf d q) (claim-touched g d q i (rw same-frames at l) m))))
+
   -- a free frame taken for a page that has none keeps the invariant, with the page in the set
   pub keep-copied : Good s (copied s b t) (marked r a p)
   keep-copied =
       record {
         buffers =
-            buffers-spliced s c′ (b .pool) (pageSize * f) _ (buffers-valid-kept (b .control) f (copyEntry t) s (b .pool) ∙ g .buffers);
+            buffers-spliced s c′ (b .pool) (pageSize * f) _ (buffers-valid-kept (b .control) f (copyEntry (b .control) t) s (b .pool) ∙ g .buffers);
         records = records-copied;
         ranged = ranged-copied;
         sized = g .sized;
@@ -280,6 +314,11 @@ module _ {s : List ℕ} {b : Buffers} {r : Replay} (g : Good s b r) (t : NewCopy
         live = live-copied;
         held = held-copied;
         kept = kept-copied;
+        deep =
+            record {
+              current = g .deep .current ∙ sym (invocations-kept (b .control) f (copyEntry (b .control) t));
+              taken = taken-copied;
+            };
       }
 
 -- ---- a store
@@ -287,8 +326,10 @@ module _ {s : List ℕ} {b : Buffers} {r : Replay} (g : Good s b r) (t : NewCopy
 -- a page in the set stays there
 marked-same : (r : Replay) (a p : ℕ) → r .touched (keyOf a p) ≡ true → marked r a p ≡ r
 marked-same r a p h =
-    ap (λ (t : ℕ → Bool). let x : Replay = record { plain = r .plain; touched = t } in x)
+    ap (λ (t : ℕ → Bool). let x : Replay = record { plain = r .plain; touched = t; depth = r .depth; first = marked r a p .first } in x)
     (fun-ext (λ k. by-test (eqb k (keyOf a p)) (λ e. rw (e, eqb-true k (keyOf a p) e) (sym h)) (λ e. rw e)))
+    ∙ ap (λ (f : ℕ → ℕ). let x : Replay = record { plain = r .plain; touched = r .touched; depth = r .depth; first = f } in x)
+    (fun-ext (λ k. by-test (eqb k (keyOf a p)) (λ e. first-same r a p k (rw (eqb-true k (keyOf a p) e) h)) (λ e. rw e)))
 
 -- what the replay does: the page joins the set, and the bytes go in
 stored-is : (r : Replay) (a : ℕ) (bytes : List ℕ)
@@ -301,6 +342,8 @@ stored-is r a bytes =
     record {
       plain = λ i. pick (eqb i (indexOf a)) (splice (r .plain i) o bytes) (r .plain i);
       touched = λ k. either (eqb k (keyOf (indexOf a) (offsetOf a / pageSize))) (r .touched k);
+      depth = r .depth;
+      first = marked r (indexOf a) (offsetOf a / pageSize) .first;
     } in
     x)
     (div-add-mod (offsetOf a) pageSize)
@@ -330,7 +373,7 @@ module _ {s : List ℕ} {b : Buffers} {r : Replay} (g : Good s b r) (kind a : �
       rw (x .account, x .page) (record { known = d .account; entry = d .entry; present = omega (arith, d .present, d .some) }) in
       let k =
       keep-stored (keep-copied g t (i .below) (i .passes) (x .none) page) (t .account .0) (t .page .0) (t .frame .0) (offsetOf a % pageSize) bytes
-      (rw (frames-kept (b .control) (t .frame .0) (copyEntry t)) (i .below)) (new-claim g t (i .below) (i .passes) (x .none) page) (d .within)
+      (rw (frames-kept (b .control) (t .frame .0) (copyEntry (b .control) t)) (i .below)) (new-claim g t (i .below) (i .passes) (x .none) page) (d .within)
       (rw (x .account, x .page) (omega (arith, d .present))) in
       rw (x .place, ← stored-at r a bytes (t .account .0) (t .page .0) (rw (x .account)) (rw (x .page))) k
   keep-data d (into-region h m x) = absurd (m (d .type))
@@ -358,6 +401,7 @@ module _ {s : List ℕ} {b : Buffers} {r : Replay} (g : Good s b r) (kind a : �
             (λ e. no-copy h (sym (u .usage) ∙ claims-copy (b .control) (x .frame .0) _ _ (rw e at c) .usage)) n
             ∙ g .held d q j low c k n;
         kept = g .kept;
+        deep = record { current = g .deep .current; taken = g .deep .taken };
       })
     where
       no-copy : (h : Region) → usageOf h ≡ usageCopy → ⊥

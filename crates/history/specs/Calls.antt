@@ -13,10 +13,12 @@ use Rattle.hekthumar.specs.Steps.{Call, begin, translation, load, store, fetch,
 abbrev pub accepted : List ℕ → Buffers → Call → Bool
 accepted s b k = eqb (stepOf s b k .answer .number) done
 
--- what a call means to the replay: it starts anew, it stores these bytes at an address, or neither
+-- what a call means to the replay: it starts anew, it stores these bytes at an address, it goes one deeper, it comes back, or none of these
 pub data Effect : Type 0 where
   starts : Effect
   stores : (address : ℕ) (bytes : List ℕ) → Effect
+  deepens : Effect
+  comes-back : Effect
   other : Effect
 
 -- the effect of each call, once it is accepted
@@ -30,8 +32,8 @@ effect (load-span a out) = other
 effect (store-span a bytes) = stores a bytes
 effect (read-record l a) = other
 effect (write-record l a fields) = stores a (encoded (l .widths) fields)
-effect (call a registers) = other
-effect (return registers) = other
+effect (call a registers) = deepens
+effect (return registers) = comes-back
 effect (resize region n) = other
 effect (change-list out) = other
 effect (page-view a q) = other

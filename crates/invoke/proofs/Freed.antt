@@ -110,7 +110,7 @@ module _ (d : ℕ) (c : List ℕ) where
 -- ---- the copies
 
 -- a copy does not leave
-copy-stays : (d : ℕ) (a : Account) (p : Page) (e : FrameEntry) → holds (Copy a p) e ≡ true → leaves d e ≡ false
+pub copy-stays : (d : ℕ) (a : Account) (p : Page) (e : FrameEntry) → holds (Copy a p) e ≡ true → leaves d e ≡ false
 copy-stays d a p e h = let u = holds-copy a p e h .usage in leaves-other d e (λ t. omega arith)
 
 -- a copy keeps its frame

@@ -19,7 +19,7 @@ pub record NoPage (s c p : List ℕ) (x : Start) : Type 0 where
 
 -- the entry of the stack page: use 2, "tag 0", no account, page 4,095, which is the first that a stack takes
 abbrev pub stackEntry : FrameEntry
-stackEntry = record { usage = 2; tag = 0; account = record { 0 = 0 }; page = record { 0 = 4095 }; zero = 0 }
+stackEntry = record { usage = 2; tag = 0; account = record { 0 = 0 }; page = record { 0 = 4095 }; depth = 0 }
 
 -- "taking frame 0 of the pool, zeroed": entry 0 is written, record 1 has one stack page, and no other byte of the pool changes
 pub record OnePage (s c p : List ℕ) (x : Start) : Type 0 where

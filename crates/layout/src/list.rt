@@ -8,7 +8,7 @@ ghost use Rattle.layout.specs.List.{changeAt, pagesAt, listTotal};
 pub const LIST_HEADER: usize = 16;
 
 // The length of an entry.
-pub const CHANGE: usize = 8;
+pub const CHANGE: usize = 12;
 
 // Where entry i starts.
 pub fn change_at(i: usize) -> usize

@@ -34,6 +34,7 @@ use Rattle.translate.specs.declared.sought.Buffer.the-variants as buffer
 use Rattle.translate.proofs.Answered.{one-place, refused-not}
 use Rattle.translate.proofs.Accepted.{requestOf, accountOf}
 use Rattle.translate.proofs.Stores.{copyOf}
+use Rattle.access.proofs.Entry.{copy-range}
 use Rattle.access.specs.Stores.{Writable, placeInPool, copyEntry, takenControl, preparedControl}
 
 -- ---- the frame that was taken
@@ -44,18 +45,15 @@ newCopy a f = record { at = inFrame f (offsetOf a); frame = f; account = account
 
 module _ (c : List ℕ) (a : ℕ) (f : Frame) where
   -- its entry holds the page
-  copy-held : holds (copyOf a) (copyEntry (newCopy a f)) ≡ true
-  copy-held = copy-holds _ _ (copyEntry (newCopy a f)) (record { usage = refl; account = refl; page = refl })
-
-  -- and fits its bytes
-  copy-range : EntryRange (copyEntry (newCopy a f))
-  copy-range = record { usage = omega arith; tag = omega arith; account = omega arith; page = omega arith; zero = omega arith }
+  copy-held : holds (copyOf a) (copyEntry c (newCopy a f)) ≡ true
+  copy-held = copy-holds _ _ (copyEntry c (newCopy a f)) (record { usage = refl; account = refl; page = refl })
 
   -- so it is the frame of the page, which had none
   taken-frame : controlValid c ≡ true → frameOf c (copyOf a) ≡ Nothing → freeFrame Highest c ≡ At f → frameOf (takenControl c (newCopy a f)) (copyOf a) ≡ At f
   taken-frame v none h =
       let l : f .0 < frames c = free-found c Highest f h .below in
-      frame-taken c (f .0) (copyEntry (newCopy a f)) copy-range (omega (arith, control-facts c v .size)) (copyOf a) none l copy-held
+      let range : EntryRange (copyEntry c (newCopy a f)) = copy-range c (newCopy a f) v (omega arith) (omega arith) in
+      frame-taken c (f .0) (copyEntry c (newCopy a f)) range (omega (arith, control-facts c v .size)) (copyOf a) none l copy-held
 
 -- ---- the place of a page
 

@@ -64,7 +64,7 @@ load-request n h = h
 -- a store changes nothing of the control block but its frame table
 only-prepared : (s c p : List ℕ) (q : Place) → Writable s c p q → OnlyTable c (preparedControl c q)
 only-prepared s c p (InPool at) w = table-same c
-only-prepared s c p (Take t) w = table-put c (t .frame .0) (copyEntry t)
+only-prepared s c p (Take t) w = table-put c (t .frame .0) (copyEntry c t)
 
 -- the span load is allowed, at the place where the bytes went, with any pool as long
 pub reread : (s c p p′ : List ℕ) (a n : ℕ) {q : Place} → translateOf s c p kindStoreSpan a n ≡ Allowed q → length p′ ≡ length p

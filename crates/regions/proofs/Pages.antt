@@ -51,8 +51,8 @@ usage-one Heap Heap e = refl
 
 -- the entry of a page is in range
 pub page-range : (d : ℕ) (r : Region) (q : Page) → d < 256 → q .0 < 65536 → EntryRange (regionEntry d r q)
-page-range d Stack q h l = record { usage = omega arith; tag = h; account = omega arith; page = l; zero = omega arith }
-page-range d Heap q h l = record { usage = omega arith; tag = h; account = omega arith; page = l; zero = omega arith }
+page-range d Stack q h l = record { usage = omega arith; tag = h; account = omega arith; page = l; depth = omega arith }
+page-range d Heap q h l = record { usage = omega arith; tag = h; account = omega arith; page = l; depth = omega arith }
 
 -- it is no copy
 pub page-no-copy : (d : ℕ) (r : Region) (q : Page) (a : Account) (p : Page) → holds (Copy a p) (regionEntry d r q) ≡ false

@@ -123,18 +123,25 @@ module _ (c : List ℕ) (r : Region) (k : ℕ) where
               (shrunk-freed n i (record { at = a .at; below = omega (arith, a .below); found = a .found }))
         ]
 
-    -- the claim of each copy is as it was: none is a frame of the pages
+    module _ (n : ℕ) (a : Account) (p : Page) (i : ℕ) where
+      -- no copy is a frame of the pages
+      copy-apart : Among c r k n i → claims c (Copy a p) i ≡ true → ⊥
+      copy-apart m e =
+          usage-no-copy r
+          (sym (claims-page c i r (pageAt r (k + m .at)) (frame-found c _ (record { 0 = i }) (m .found) .passes) .usage)
+          ∙ claims-copy c i a p e .usage)
+
+      -- so its entry is as it was
+      pub shrunk-copy : claims c (Copy a p) i ≡ true → frameEntryOf (shrunk c r k n) i ≡ frameEntryOf c i
+      shrunk-copy e = ⊎-elim (λ m. absurd (copy-apart m e)) (shrunk-kept n i) (among-or n i)
+
+    -- the claim of each copy is as it was
     pub shrunk-copies : (n : ℕ) (a : Account) (p : Page) (i : ℕ) → claims (shrunk c r k n) (Copy a p) i ≡ claims c (Copy a p) i
     shrunk-copies n a p i =
         ⊎-elim
         (λ m.
         claims-holds (shrunk c r k n) i (Copy a p)
         ∙ ap (λ (x : FrameEntry). holds (Copy a p) x) (shrunk-freed n i m)
-        ∙ sym
-        (fails (claims c (Copy a p) i)
-        (λ e.
-        usage-no-copy r
-        (sym (claims-page c i r (pageAt r (k + m .at)) (frame-found c _ (record { 0 = i }) (m .found) .passes) .usage)
-        ∙ claims-copy c i a p e .usage))))
+        ∙ sym (fails (claims c (Copy a p) i) (copy-apart n a p i m)))
         (λ h. claims-ext c (shrunk c r k n) (Copy a p) i (shrunk-kept n i h))
         (among-or n i)

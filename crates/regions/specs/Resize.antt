@@ -36,7 +36,7 @@ pageAt Heap k = record { 0 = k }
 
 -- "with entry (use, depth, 0, page, 0)"
 abbrev pub regionEntry : ℕ → Region → Page → FrameEntry
-regionEntry tag r q = record { usage = usageOf r; tag = tag; account = record { 0 = 0 }; page = q; zero = 0 }
+regionEntry tag r q = record { usage = usageOf r; tag = tag; account = record { 0 = 0 }; page = q; depth = 0 }
 
 -- one page more, in the frame found: its entry written and its bytes zeroed
 abbrev pub growIn : Region → Page → Buffers → Found → Buffers

@@ -55,7 +55,7 @@ fn take_page(c: &mut [u8], pool: &mut [u8], f: Frame, r: Region, page: Page, dep
             tag: depth,
             account: Account(0),
             page,
-            zero: 0,
+            depth: 0,
         },
     );
     clear(pool, frame_start(f), PAGE);

@@ -25,7 +25,7 @@ fn entry(i: u16, usage: u8) -> FrameEntry {
         tag: 0,
         account: Account(0),
         page: Page(i),
-        zero: 0,
+        depth: 0,
     }
 }
 

@@ -48,6 +48,7 @@ module _ {s c p : List ℕ} (b : BuffersFacts s c p) where
           account = rw (x .account) (lt-ltb _ _ (d .account));
           entry = rw (x .account) (d .entry);
           page = rw (x .account, x .page) (omega (arith, d .present, d .some));
+          control = b .control;
           slot = h .0;
           frame = h .1;
         },

@@ -7,6 +7,7 @@ use lib.ListN.{length}
 use Rattle.layout.specs.Page.{pageSize}
 use Rattle.snapshot.specs.Header.{snapshotValid}
 use Rattle.snapshot.specs.Accounts.{known, entryOf, entryValid, dataLength}
+use Rattle.control.specs.Control.{controlValid}
 use Rattle.pages.specs.Pages.{frameStart, pageStart}
 use Rattle.frames.specs.Table.{entryEnd}
 use Rattle.translate.specs.declared.place.NewCopy.{NewCopy}
@@ -19,6 +20,7 @@ pub record CopyFits (s c p : List ℕ) (n : NewCopy) : Type 0 where
   pub account : known s (n .account) ≡ true
   pub entry : entryValid s (n .account) ≡ true
   pub page : pageStart (n .page) < dataLength (entryOf s (n .account))
+  pub control : controlValid c ≡ true
   pub slot : entryEnd (n .frame .0) ≤ length c
   pub frame : frameStart (n .frame) + pageSize ≤ length p
 

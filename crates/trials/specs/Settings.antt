@@ -61,7 +61,7 @@ onePage =
       snapshot = snapshotWith 1 0;
       control =
           controlWith newer 2 1 1
-          (frameEntryBytes (record { usage = usageStack; tag = 0; account = record { 0 = 0 }; page = record { 0 = pageLimit - 1 }; zero = 0 })
-          ++ frameEntryBytes (record { usage = usageHeap; tag = 0; account = record { 0 = 0 }; page = record { 0 = 0 }; zero = 0 }));
+          (frameEntryBytes (record { usage = usageStack; tag = 0; account = record { 0 = 0 }; page = record { 0 = pageLimit - 1 }; depth = 0 })
+          ++ frameEntryBytes (record { usage = usageHeap; tag = 0; account = record { 0 = 0 }; page = record { 0 = 0 }; depth = 0 }));
       pool = zeros (poolLength 2);
     }

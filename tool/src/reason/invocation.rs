@@ -1,7 +1,7 @@
 //! Why begin, a call, a return or a change of size was refused.
 
 use super::{buffers, entry, first, no_account, no_frame, shallower_page};
-use crate::rules::{control, former, snapshot};
+use crate::rules::{control, former_control, snapshot};
 use crate::text::count;
 use crate::verdict::snapshot_valid;
 use crate::world::{region_name, World};
@@ -58,7 +58,7 @@ fn no_program(world: World, program: u16, refusal: Refusal) -> Option<String> {
 /// Which length of control block and pool is wrong; of a block made before editions, that it was.
 fn lengths(world: World) -> Option<String> {
     let wrong = wrong_length(world)?;
-    let former = former::broken(world.control).into_iter().collect();
+    let former = former_control::broken(world.control).into_iter().collect();
     first("the control block", former).or(Some(wrong))
 }
 

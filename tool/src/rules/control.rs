@@ -1,6 +1,6 @@
 //! The rules of a control block, with its snapshot and its pool.
 
-use super::{former, Broken, Findings};
+use super::{former_control, Broken, Findings};
 use crate::text::count;
 use crate::verdict::account_valid;
 use crate::world::{World, COPY};
@@ -11,7 +11,7 @@ use std::collections::BTreeMap;
 
 /// The rules that a control block breaks by itself, whatever the snapshot and the pool.
 pub fn broken(control: &[u8]) -> Vec<Broken> {
-    if let Some(former) = former::broken(control) {
+    if let Some(former) = former_control::broken(control) {
         return vec![former];
     }
     let mut findings = Findings::default();
@@ -100,9 +100,10 @@ pub fn copies_broken(world: World) -> Vec<Broken> {
         if let Some(trouble) = copy_broken(world, entry) {
             findings.broken(at, format!("frame {frame} is a copy of page {} of account {}: {trouble}", entry.page, entry.account));
         }
-        if let Some(first) = held.insert((entry.account, entry.page), frame) {
-            held.insert((entry.account, entry.page), first);
-            findings.broken(at, format!("frames {first} and {frame} are both copies of page {} of account {}", entry.page, entry.account));
+        let (first, depth) = *held.entry((entry.account, entry.page)).or_insert((frame, entry.depth));
+        if first != frame {
+            let page = format!("page {} of account {}, with depths {depth} and {}", entry.page, entry.account, entry.depth);
+            findings.broken(at, format!("frames {first} and {frame} are both copies of {page}"));
         }
     }
     findings.0

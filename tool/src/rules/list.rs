@@ -1,6 +1,6 @@
 //! The rules of a change list.
 
-use super::{Broken, Findings};
+use super::{former_list, Broken, Findings};
 use crate::text::count;
 use crate::verdict::list_entries;
 use hekthumar::change_list_len;
@@ -16,6 +16,9 @@ pub struct Target {
 
 /// The rules that a change list breaks; with a target also those of applying it there.
 pub fn broken(list: &[u8], target: Option<Target>) -> Vec<Broken> {
+    if let Some(former) = former_list::broken(list) {
+        return vec![former];
+    }
     let mut findings = Findings::default();
     let Some(header) = ListHeader::read(list) else {
         findings.broken(list.len(), format!("a change list has a header of {LIST_HEADER} bytes; found {}", list.len()));
@@ -35,7 +38,7 @@ pub fn broken(list: &[u8], target: Option<Target>) -> Vec<Broken> {
     findings.0
 }
 
-/// The rules of the entries, in order.
+/// The rules of the entries, in order. A depth may be any number.
 fn entries(findings: &mut Findings, list: &[u8], target: Option<Target>) {
     let mut before = None;
     for (number, entry) in list_entries(list).enumerate() {
@@ -54,6 +57,7 @@ fn entries(findings: &mut Findings, list: &[u8], target: Option<Target>) {
                 live => findings.equal(at + 4, &format!("{data} the number of live bytes of page {}", entry.page), live as u64, entry.live),
             }
         }
+        findings.equal(at + 10, "the entry's last u16, behind its depth,", 0, entry.zero);
     }
 }
 

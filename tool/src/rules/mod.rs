@@ -1,7 +1,8 @@
 //! Which rules a file breaks. Whether it breaks any is for the library to say ([`crate::verdict`]); these name them.
 
 pub mod control;
-pub mod former;
+pub mod former_control;
+pub mod former_list;
 pub mod list;
 pub mod pool;
 pub mod snapshot;

@@ -3,7 +3,7 @@
 use super::{control, list, pool, snapshot};
 use crate::verdict::*;
 use crate::world::World;
-use hekthumar::inspect::AccountEntry;
+use hekthumar::inspect::{AccountEntry, ListEntry};
 use hekthumar::layout::{CONTROL_HEADER, PAGE, SHADOW_RECORD, SNAPSHOT_HEADER};
 use hekthumar::*;
 
@@ -48,10 +48,18 @@ fn buffers() -> (Vec<u8>, Vec<u8>, Vec<u8>) {
     let mut memory = Memory::new(&snapshot, &mut control, &mut pool);
     memory.begin(program, Edition::Newer).unwrap();
     memory.store_u8(Address::data(slots, 0).unwrap(), 1).unwrap();
-    memory.store_u8(Address::data(slots, 4_096).unwrap(), 1).unwrap();
     memory.call(program, &[0; 256]).unwrap();
+    memory.store_u8(Address::data(slots, 4_096).unwrap(), 1).unwrap();
     memory.resize(Region::Heap, 2).unwrap();
     (snapshot, control, pool)
+}
+
+/// A snapshot, and a change list of two pages of account 1.
+fn changes() -> (Vec<u8>, Vec<u8>) {
+    let (snapshot, mut control, mut pool) = buffers();
+    let mut out = vec![0; change_list_len(6)];
+    let made = Memory::new(&snapshot, &mut control, &mut pool).change_list(&mut out).unwrap().as_bytes().to_vec();
+    (snapshot, made)
 }
 
 #[test]
@@ -127,9 +135,7 @@ fn of_pools() {
 
 #[test]
 fn of_change_lists() {
-    let (snapshot, mut control, mut pool) = buffers();
-    let mut out = vec![0; change_list_len(6)];
-    let made = Memory::new(&snapshot, &mut control, &mut pool).change_list(&mut out).unwrap().as_bytes().to_vec();
+    let (snapshot, made) = changes();
     let (mut numbers, mut valid, mut applies) = (Numbers(5), 0, 0);
     for _ in 0..20_000 {
         let damaged = numbers.damaged(&made, made.len() - 2 * PAGE);
@@ -141,4 +147,20 @@ fn of_change_lists() {
         applies += usize::from(list_applies(&damaged, 1, data));
     }
     assert!(1_000 < applies && applies < valid && valid < 19_000, "{applies} {valid}");
+}
+
+/// An entry's depth may be any number, what follows it only 0: each bit of both, in each entry.
+#[test]
+fn of_depths() {
+    let (snapshot, made) = changes();
+    let data = account_data(&snapshot, 1).unwrap();
+    let depths = [0, 1].map(|number| ListEntry::read(&made, number).unwrap().depth);
+    assert_eq!(depths, [0, 1]);
+    for (entry, bit) in (0..2).flat_map(|entry| (0..32).map(move |bit| (entry, bit))) {
+        let mut altered = made.clone();
+        altered[ListEntry::at(entry) + 8 + bit / 8] ^= 1 << (bit % 8);
+        let broken = list::broken(&altered, None);
+        assert_eq!([broken.is_empty(), list_valid(&altered), list_applies(&altered, 1, data)], [bit < 16; 3], "{entry} {bit}");
+        assert!(broken.iter().all(|broken| broken.at == ListEntry::at(entry) + 10), "{broken:?}");
+    }
 }

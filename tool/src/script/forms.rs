@@ -32,7 +32,7 @@ pub const FORMS: [Form; 22] = [
     form("stack", "N", "NUMBER", "gives the stack N pages"),
     form("heap", "N", "NUMBER", "gives the heap N pages"),
     form("view", "ACCOUNT PAGE", "NUMBER [BUFFER [START [LENGTH]]]", "where an account's page lies, and its first bytes"),
-    form("list", "", "NUMBER [PAGES]", "the entries of the change list"),
+    form("list", "", "NUMBER [PAGES [DEPTH..]]", "the entries of the change list, with the depth of each page's first store"),
     form("map", "", "MARKS", "the pool's frames, what lies in them, and the longest free run"),
     form("poke", "BUFFER OFFSET BYTES", "", "writes into the snapshot, control or pool behind the library's back"),
     form("save-control", "FILE", "", "writes the control block to a file, for show and resume"),

@@ -4,7 +4,7 @@ use super::Session;
 use crate::answer::{Answer, Fact};
 use crate::failure::Failure;
 use crate::files::{self, Limit};
-use crate::rules::former::made_before_editions;
+use crate::rules::former_control::made_before_editions;
 use crate::script::Buffer;
 use crate::text::{count, name};
 use crate::{pool_map, verdict};

@@ -35,7 +35,11 @@ impl Session {
     /// The change list, and the answer that shows its entries.
     pub(super) fn list(&mut self) -> Answer {
         match self.change_list() {
-            Ok(list) => Answer::done("", [Fact::Number(pages(&list).len() as u64)]).and(pages(&list)),
+            Ok(list) => {
+                let depths: Vec<u64> = changes_in(&list).map(|change| change.depth.into()).collect();
+                let numbers = [depths.len() as u64].into_iter().chain(depths);
+                Answer::done("", numbers.map(Fact::Number)).and(pages(&list))
+            }
             Err(refusal) => Answer::refused(refusal, changes::list(self.world(), refusal)),
         }
     }
@@ -48,8 +52,23 @@ impl Session {
     }
 }
 
+/// The pages of a change list; none where it is malformed.
+fn changes_in(list: &[u8]) -> impl Iterator<Item = Change<'_>> {
+    ChangeList::parse(list).into_iter().flat_map(|list| list.entries())
+}
+
 /// A line for each page of a change list.
 pub fn pages(list: &[u8]) -> Vec<String> {
-    let line = |change: Change| format!("  account {}, page {}, live bytes {}", change.account, change.page, change.live.len());
-    ChangeList::parse(list).map(|list| list.entries().map(line).collect()).unwrap_or_default()
+    changes_in(list).map(line).collect()
+}
+
+/// A line for each page of an account in a change list.
+pub fn pages_of(list: &[u8], account: u16) -> Vec<String> {
+    changes_in(list).filter(|change| change.account == account).map(line).collect()
+}
+
+/// A page, how much of it is live, and how deep it was first stored to.
+fn line(change: Change) -> String {
+    let Change { account, page, live, depth } = change;
+    format!("  account {account}, page {page}, live bytes {}, depth {depth}", live.len())
 }

@@ -7,7 +7,7 @@ mod invocations;
 mod records;
 
 pub use buffers::{CONTROL, POOL};
-pub use changes::pages;
+pub use changes::{pages, pages_of};
 pub use invocations::register_lines;
 
 use crate::answer::Answer;

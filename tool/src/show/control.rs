@@ -6,7 +6,7 @@ use crate::failure::Failure;
 use crate::output::Output;
 use crate::pool_map;
 use crate::rules::control::{all_broken, copies_broken};
-use crate::rules::former::made_before_editions;
+use crate::rules::former_control::made_before_editions;
 use crate::rules::Broken;
 use crate::session::register_lines;
 use crate::verdict::{buffers_valid, listable, pool_for, snapshot_valid, unreadable, widest_snapshot};

@@ -1,6 +1,7 @@
 //! What a file is.
 
-use crate::rules::former::made_before_editions;
+use crate::rules::former_control::made_before_editions;
+use crate::rules::former_list::made_before_depths;
 use hekthumar::inspect::{ControlHeader, ListHeader, SnapshotHeader};
 use hekthumar::layout::*;
 use hekthumar::{change_list_len, control_len};
@@ -94,6 +95,9 @@ fn control_marks(bytes: &[u8]) -> usize {
 }
 
 fn list_marks(bytes: &[u8]) -> usize {
+    if made_before_depths(bytes) {
+        return 3;
+    }
     let entries = word(bytes, 1) == Some(LIST_HEADER as u32);
     let pages = word(bytes, 0).zip(word(bytes, 2)).is_some_and(|(n, at)| LIST_HEADER + LIST_ENTRY * n as usize == at as usize);
     let total = ListHeader::read(bytes).is_some_and(|header| change_list_len(header.pages as usize) == header.total as usize);

@@ -12,10 +12,17 @@ pub fn record(program: u16, stack: u16, heap: u16, registers: &[u64]) -> Vec<u8>
     record
 }
 
-/// The entry of a frame.
+/// The entry of a frame; of a copy, one made at depth 0.
 pub fn entry(usage: u8, tag: u8, account: u16, page: u16) -> [u8; FRAME_ENTRY] {
     let ([a0, a1], [p0, p1]) = (account.to_le_bytes(), page.to_le_bytes());
     [usage, tag, a0, a1, p0, p1, 0, 0]
+}
+
+/// The entry of a frame that holds a copy made at a depth.
+pub fn copy_at(depth: u16, account: u16, page: u16) -> [u8; FRAME_ENTRY] {
+    let mut copy = entry(COPY, 0, account, page);
+    copy[COPY_DEPTH..].copy_from_slice(&depth.to_le_bytes());
+    copy
 }
 
 /// The entry of a frame that nobody uses.
@@ -49,7 +56,7 @@ pub fn alone(stack: u16, heap: u16, frames: &[[u8; FRAME_ENTRY]]) -> Vec<u8> {
 /// 70 frames in every use, and two invocations; with the mill's snapshot frame 64 holds a page of no account.
 pub fn mixed_control() -> Vec<u8> {
     let mut frames = [UNUSED; 70];
-    frames[0] = entry(COPY, 0, 1, 1);
+    frames[0] = copy_at(1, 1, 1);
     frames[1] = entry(STACK, 0, 0, 4_095);
     frames[2] = entry(HEAP, 1, 0, 0);
     frames[63] = entry(9, 3, 2, 1);

@@ -1,7 +1,7 @@
 //! Files that break the rules, each with a name for what is wrong.
 
 use super::bytes::{one_more, patched, with_half, with_word, words};
-use super::control::{alone, control, entry, mixed_control, record, UNUSED};
+use super::control::{alone, control, copy_at, entry, mixed_control, record, UNUSED};
 use super::layout::*;
 use super::list::{booking, list};
 use super::snapshot::{data_at, slots, snapshot, sound_mill, Account};
@@ -91,9 +91,9 @@ pub fn controls_with_snapshot() -> Vec<Named> {
     ]
 }
 
-/// A control block whose frames are copies of these pages: account and page.
+/// A control block whose frames are copies of these pages, account and page, of depths 0, 1, 2 and so on.
 pub fn copies(pages: &[(u16, u16)]) -> Vec<u8> {
-    let frames: Vec<_> = pages.iter().map(|&(account, page)| entry(COPY, 0, account, page)).collect();
+    let frames: Vec<_> = pages.iter().zip(0..).map(|(&(account, page), depth)| copy_at(depth, account, page)).collect();
     alone(0, 0, &frames)
 }
 
@@ -102,6 +102,8 @@ pub fn lists() -> Vec<Named> {
     let (good, slots) = (booking(), slots());
     let one_more = |at| one_more(&good, at);
     let live = |value| with_word(&good, list_entry_at(0) + LIVE, value);
+    let last_half = |list: &[u8], entry, value| with_half(list, list_entry_at(entry) + LAST_HALF, value);
+    let two = list(&[(1, 1, &slots[PAGE..]), (2, 0, &slots[..100])]);
     vec![
         ("short", good[..12].to_vec()),
         ("count", one_more(PAGES)),
@@ -114,6 +116,9 @@ pub fn lists() -> Vec<Named> {
         ("twice", list(&[(1, 1, &slots[PAGE..]), (1, 1, &slots[PAGE..])])),
         ("empty-page", live(0)),
         ("large-page", live(PAGE + 1)),
+        ("last-half", last_half(&good, 0, 1)),
+        // in the high byte, and in an entry of another account
+        ("other-last-half", last_half(&two, 1, 0x100)),
     ]
 }
 

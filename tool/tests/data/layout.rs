@@ -1,5 +1,5 @@
-//! The numbers of document 01's layouts, with the longer header of document 02's request Six. They are written apart from the library's, so
-//! that the two can disagree.
+//! The numbers of document 01's layouts, with the longer header of document 02's request Six and the longer list entry of its request Eight.
+//! They are written apart from the library's, so that the two can disagree.
 
 /// Bytes of a page, and of a frame of the pool.
 pub const PAGE: usize = 4_096;
@@ -70,6 +70,9 @@ pub const PROGRAM: usize = 0;
 pub const STACK_PAGES: usize = 2;
 pub const HEAP_PAGES: usize = 4;
 
+/// Where the depth of a copy stands in its frame's entry.
+pub const COPY_DEPTH: usize = 6;
+
 /// The uses of a frame.
 pub const FREE: u8 = 0;
 pub const COPY: u8 = 1;
@@ -78,7 +81,10 @@ pub const HEAP: u8 = 3;
 
 /// A change list: its header, the entry of a page.
 pub const LIST_HEADER: usize = 16;
-pub const LIST_ENTRY: usize = 8;
+pub const LIST_ENTRY: usize = 12;
+
+/// The entry of a page in a change list made before depths were listed: it ends where the depth stands.
+pub const FORMER_LIST_ENTRY: usize = DEPTH;
 
 /// Where the words of a list's header stand.
 pub const PAGES: usize = 0;
@@ -86,8 +92,10 @@ pub const ENTRIES_AT: usize = 4;
 pub const PAGES_AT: usize = 8;
 pub const LIST_TOTAL: usize = 12;
 
-/// Where the live bytes of a page stand in its entry.
+/// Where the fields of a page's entry stand.
 pub const LIVE: usize = 4;
+pub const DEPTH: usize = 8;
+pub const LAST_HALF: usize = 10;
 
 /// Where the entry of an account starts in a snapshot.
 pub fn account_at(account: usize) -> usize {

@@ -5,11 +5,11 @@ use crate::common::folder::Content;
 use crate::data::bytes::patched;
 use crate::data::damaged;
 use crate::data::layout::PAGE;
-use crate::data::list::{booked_slots, booking, list, trial_slots};
+use crate::data::list::{at_depths, booked_slots, booking, former_booking, list, trial_slots};
 use crate::data::snapshot::{slots, sound_mill};
 
 /// A byte more than a change list of 256 pages has.
-const LONG: u64 = 1_050_641;
+const LONG: u64 = 1_051_665;
 
 pub fn cases() -> Vec<Case> {
     [accepted(), refused(), rules()].into_iter().flatten().collect()
@@ -27,7 +27,8 @@ fn accepted() -> Vec<Case> {
     let pages = list(&[(0, 9, &[1; 8]), (1, 0, &both[..PAGE]), (1, 1, &both[PAGE..]), (2, 0, &[2; 8])]);
     vec![
         over_slots("apply", booking()).leaves("kept", booked_slots()),
-        over_slots("apply-pages", pages).leaves("kept", both),
+        // a depth may be any number
+        over_slots("apply-pages", at_depths(&pages, &[0, 15, u16::MAX, 16])).leaves("kept", both),
         over_slots("apply-longer", [booking(), vec![7; 5]].concat()).leaves("kept", booked_slots()),
         over_slots("apply-nothing", list(&[])).leaves("kept", slots()),
         Case::script("apply-saved", sound_mill(), include_str!("../inputs/saves.txt"))
@@ -63,6 +64,7 @@ fn refused() -> Vec<Case> {
         account("apply-account-word", b"one"),
         account("apply-account-escape", b"1\x1b[2J\xff"),
         over_slots("apply-live", damaged::short_of_a_byte()).leaves_no("kept"),
+        over_slots("apply-former", former_booking()).leaves_no("kept"),
         data("apply-short-data", slots()[..PAGE].into()),
         data("apply-long-data", Content::Zeros(LONG)),
         over_slots("apply-long-list", Content::Zeros(LONG)).leaves_no("kept"),

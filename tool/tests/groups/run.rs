@@ -3,11 +3,11 @@
 use super::case::Case;
 use crate::common::folder::Content;
 use crate::data::bytes::patched;
-use crate::data::control::{alone, booked, booked_pool, control, entry, former, record, UNUSED};
+use crate::data::control::{alone, booked, booked_pool, control, copy_at, entry, former, record, UNUSED};
 use crate::data::damaged;
 use crate::data::layout::*;
-use crate::data::list::{booked_slots, booking, list};
-use crate::data::snapshot::{mill, sound_mill};
+use crate::data::list::{at_depths, booked_slots, booking, list};
+use crate::data::snapshot::{self, mill, sound_mill};
 
 const SAVES: &str = include_str!("../inputs/saves.txt");
 
@@ -21,6 +21,7 @@ fn statements() -> Vec<Case> {
     vec![
         every_statement(),
         heap_left(),
+        depths(),
         Case::script("run-records", sound_mill(), include_str!("../inputs/records.txt")),
         Case::script("run-no-frames", sound_mill(), no_frames),
         Case::script("run-largest", sound_mill(), include_str!("../inputs/largest.txt")),
@@ -53,6 +54,24 @@ fn heap_left() -> Case {
         .leaves("freed-control", called(1, &freed))
         .leaves("left-control", called(3, &left))
         .leaves("kept-control", alone(1, 3, &left))
+}
+
+/// Pages first stored to at depths 0, 1 and 2: in the frame table, in the list, and as it is applied.
+fn depths() -> Case {
+    let mut slots = booked_slots();
+    slots[4_104..4_106].copy_from_slice(&[0x22, 0x33]);
+    slots[0] = 0x44;
+    let record = patched(&snapshot::slots()[..PAGE], 0x10, &[7_u64, 8].map(u64::to_le_bytes).concat());
+    let copies = [copy_at(2, 4, 0), copy_at(1, 1, 0), copy_at(0, 1, 1)];
+    let frames = [[entry(STACK, 0, 0, 4_095), entry(HEAP, 2, 0, 0), UNUSED].as_slice(), &copies].concat();
+    let listed = list(&[(1, 0, &slots[..PAGE]), (1, 1, &slots[PAGE..]), (4, 0, &record)]);
+    Case::script("run-depths", sound_mill(), include_str!("../inputs/depths.txt"))
+        .with("slots", snapshot::slots())
+        .then("show kept-control kept-list")
+        .then("apply kept-list 1 slots kept-slots")
+        .leaves("kept-control", alone(1, 1, &frames))
+        .leaves("kept-list", at_depths(&listed, &[1, 0, 2]))
+        .leaves("kept-slots", slots)
 }
 
 /// What is kept in files, and gone on from.

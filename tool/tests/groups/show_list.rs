@@ -3,7 +3,7 @@
 use super::case::Case;
 use crate::data::damaged;
 use crate::data::layout::PAGE;
-use crate::data::list::{booking, list, Change};
+use crate::data::list::{at_depths, booking, former, former_booking, list, Change};
 use crate::data::snapshot::{mill, slots, sound_mill};
 
 pub fn cases() -> Vec<Case> {
@@ -12,8 +12,14 @@ pub fn cases() -> Vec<Case> {
 
 fn whole() -> Vec<Case> {
     let show = |name, list: Vec<u8>| Case::new(name, "show list").with("list", list);
+    let deep = list(&[(0, 9, &[1; 8]), (1, 0, &[2; PAGE]), (1, 1, &[3; 7]), (2, 0, &[4; 8])]);
     vec![
         show("show-list", booking()),
+        // a depth may be any number
+        show("show-list-depths", at_depths(&deep, &[1, 0, 15, u16::MAX])),
+        show("show-list-former", former_booking()),
+        // too short for what its header says, and so taken for a list like any other
+        Case::new("show-list-former-cut", "show list=file").with("file", &former_booking()[..4_000]),
         show("show-list-empty", list(&[])),
         show("show-list-longer", [booking(), vec![7; 5]].concat()),
         Case::new("show-two-lists", "show one two").with("one", booking()).with("two", list(&[])),
@@ -27,6 +33,7 @@ fn beside_snapshot() -> Vec<Case> {
     let pages = |name, pages: &[Change]| show(name, list(pages));
     vec![
         pages("show-list-fits", &[(0, 0, &[7; 16]), (1, 0, &slots[..PAGE]), (1, 1, &slots[PAGE..])]),
+        show("show-list-former-pages", [former(&[(0, 0, &[7; 16]), (1, 1, &slots[PAGE..])]), vec![7; 5]].concat()),
         show("show-list-live", damaged::short_of_a_byte()),
         pages("show-list-no-page", &[(1, 2, &[7; 8])]),
         pages("show-list-no-account", &[(1, 1, &slots[PAGE..]), (9, 0, &[7; 8])]),

@@ -35,8 +35,8 @@ fn kinds() -> Vec<Case> {
         show("show-list-or-snapshot", &words([9, 16, 0, 32])),
         show("show-list-or-control", &words([9, 16, 24, 7])),
         // two words of a change list and one of a snapshot; two words of a change list and all of a snapshot
-        show("show-rather-list", &words([2, 16, 32, 32])),
-        show("show-rather-snapshot", &snapshot(&[Account::ABSENT], 16, &[0; 24], &[])),
+        show("show-rather-list", &words([2, 16, 40, 32])),
+        show("show-rather-snapshot", &snapshot(&[Account::ABSENT], 16, &[0; 28], &[])),
         // without the offset of the account table nothing else tells a snapshot
         show("show-no-table", &named(damaged::snapshots(), "table")),
         show("show-damaged-snapshot", &sound_mill()[..6_000]),

@@ -53,11 +53,16 @@ fn copy_row(report: &mut Report, name: &str, world: &mut World, frame: usize) {
     );
 }
 
+/// A program at depth 1, so that a copy with a wrong depth shows.
+fn deeper(frames: usize) -> World {
+    World::begun(frames).called()
+}
+
 pub fn copies(report: &mut Report) {
-    copy_row(report, "store that takes a copy", &mut World::begun(64), 63);
-    copy_row(report, "store that takes a copy, 1,024 frames", &mut World::begun(1024), 1023);
-    copy_row(report, "store that takes a copy, last of 1,024 frames free", &mut World::begun(1024).copied(0..1023), 1023);
-    copy_row(report, "store that takes a copy, first of 1,024 frames free", &mut World::begun(1024).stored(0..1023), 0);
+    copy_row(report, "store that takes a copy", &mut deeper(64), 63);
+    copy_row(report, "store that takes a copy, 1,024 frames", &mut deeper(1024), 1023);
+    copy_row(report, "store that takes a copy, last of 1,024 frames free", &mut deeper(1024).copied(0..1023), 1023);
+    copy_row(report, "store that takes a copy, first of 1,024 frames free", &mut deeper(1024).stored(0..1023), 0);
 }
 
 pub fn resizes(report: &mut Report) {
@@ -107,13 +112,13 @@ fn list(world: &World, pages: usize) -> Vec<u8> {
 }
 
 pub fn lists(report: &mut Report) {
-    list_row(report, "1 page, 1,024 frames", World::begun(1024).copied(7..8), 1);
-    list_rows(report, "1 page, 64 frames", World::begun(64).copied(7..8), 1);
-    list_rows(report, "64 pages in order", World::begun(64).copied(0..64), 64);
-    list_rows(report, "64 pages, last first", World::begun(64).copied((0..64).rev()), 64);
-    list_rows(report, "1,024 pages in order", World::begun(1024).copied(0..1024), 1024);
-    list_rows(report, "1,024 pages, last first", World::begun(1024).copied((0..1024).rev()), 1024);
-    list_rows(report, "1,024 pages, scattered", World::begun(1024).copied((0..1024).map(|i| i * 617 % SLOTS_PAGES)), 1024);
+    list_row(report, "1 page, 1,024 frames", deeper(1024).copied(7..8), 1);
+    list_rows(report, "1 page, 64 frames", deeper(64).copied(7..8), 1);
+    list_rows(report, "64 pages in order", deeper(64).copied(0..64), 64);
+    list_rows(report, "64 pages, last first", deeper(64).copied((0..64).rev()), 64);
+    list_rows(report, "1,024 pages in order", deeper(1024).copied(0..1024), 1024);
+    list_rows(report, "1,024 pages, last first", deeper(1024).copied((0..1024).rev()), 1024);
+    list_rows(report, "1,024 pages, scattered", deeper(1024).copied((0..1024).map(|i| i * 617 % SLOTS_PAGES)), 1024);
 }
 
 fn spans_against_copy(report: &mut Report) {

@@ -3,7 +3,7 @@
 use crate::plain_headers::{vm, ENTRY, PAGE, TABLE};
 use crate::plain_place::{find_place, locate, Place, FETCH, LOAD, LOAD_SPAN, STORE, STORE_SPAN};
 use crate::plain_refused::{outcome, Refused};
-use crate::plain_words::u64_at;
+use crate::plain_words::{u32_at, u64_at};
 use hekthumar::sys::{self, Outcome, Value};
 
 #[inline(never)]
@@ -82,9 +82,10 @@ pub extern "C" fn fetch(s: &[u8], c: &[u8], p: &[u8], address: u64, size: usize)
     answer(load_kind::<FETCH>(s, c, p, address, size))
 }
 
-/// Takes a frame for a copy of an account's page.
+/// Takes a frame for a copy of an account's page, whose entry keeps the depth.
 fn take(s: &[u8], c: &mut [u8], p: &mut [u8], frame: usize, account: usize, page: usize) {
-    let entry = 1 | (account as u64) << 16 | (page as u64) << 32;
+    let depth = u64::from(u32_at(c, 4)) - 1;
+    let entry = 1 | (account as u64) << 16 | (page as u64) << 32 | depth << 48;
     c[TABLE + 8 * frame..][..8].copy_from_slice(&entry.to_le_bytes());
     let (first, data) = (u64_at(s, 32 + ENTRY * account), u64_at(s, 32 + ENTRY * account + 8) as usize);
     let live = ((first >> 32) as usize - PAGE * page).min(PAGE);

@@ -4,7 +4,7 @@ use crate::plain_headers::{number, PAGE};
 use crate::plain_words::{u32_at, u64_at};
 
 const HEADER: usize = 16;
-const ENTRY: usize = 8;
+const ENTRY: usize = 12;
 
 /// Account, page and live bytes of an entry.
 #[inline(always)]
@@ -13,7 +13,13 @@ fn change(entry: &[u8; ENTRY]) -> (u16, usize, usize) {
     (e as u16, (e >> 16) as usize & 0xFFFF, (e >> 32) as usize)
 }
 
-/// Whether the entries ascend, and each has the live bytes that applying asks for.
+/// Whether the number behind the depth is 0: then the two as one are below 2^16.
+#[inline(always)]
+fn ends_in_zero(entry: &[u8; ENTRY]) -> bool {
+    u32_at(entry, 8) < 1 << 16
+}
+
+/// Whether the entries ascend and end in 0, and each has the live bytes that applying asks for.
 #[inline(always)]
 fn entries_good(entries: &[[u8; ENTRY]], account: u16, length: usize) -> bool {
     let mut least = 0;
@@ -23,7 +29,7 @@ fn entries_good(entries: &[[u8; ENTRY]], account: u16, length: usize) -> bool {
         let ascends = key >= least;
         least = key + 1;
         let given = length.saturating_sub(PAGE * page).min(PAGE);
-        ascends && live.wrapping_sub(1) < PAGE && (index != account || live == given)
+        ascends && ends_in_zero(entry) && live.wrapping_sub(1) < PAGE && (index != account || live == given)
     })
 }
 

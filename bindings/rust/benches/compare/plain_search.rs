@@ -1,4 +1,4 @@
-//! Searches of the frame table. An entry is one number: use, tag, account, page, zero from the low end on. The entries that a search starts
+//! Searches of the frame table. An entry is one number: use, tag, account, page, depth from the low end on. The entries that a search starts
 //! with are tested one by one, since most programs use few frames; the others in groups without a branch inside, which compile to vector
 //! instructions, and out of line, so that a call that ends at the first ones saves fewer registers.
 

@@ -63,6 +63,12 @@ impl World {
         World::begun_of(Edition::Newer, frames)
     }
 
+    /// Calls the program from itself, so that copies are taken at depth 1.
+    pub fn called(mut self) -> World {
+        assert_eq!(library::call(&self.s, &mut self.c, &self.p, 0, &[0; 256]), 0);
+        self
+    }
+
     /// Stores to the slots' pages, in this order: the first copy is in the highest free frame.
     pub fn stored(mut self, pages: impl Iterator<Item = usize>) -> World {
         for page in pages {

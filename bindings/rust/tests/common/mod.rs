@@ -17,6 +17,16 @@ impl Host {
         Host { snapshot, control: vec![byte; control_len(frames)], pool: vec![byte; pool_len(frames)] }
     }
 
+    /// Two programs, and behind them an account of the second one's, which it may write.
+    #[allow(dead_code)] // used by the tests that are about calls
+    pub fn of_two_programs(data: impl Into<Vec<u8>>, frames: usize) -> Host {
+        let mut builder = SnapshotBuilder::new();
+        builder.account(Account::program([0x13, 0, 0, 0]));
+        builder.account(Account::program([0x93, 0, 0, 0]));
+        builder.account(Account::data(1, data).writable());
+        Host::filled(builder, frames, 0xCC)
+    }
+
     pub fn memory(&mut self) -> Memory<'_> {
         Memory::new(&self.snapshot, &mut self.control, &mut self.pool)
     }

@@ -19,6 +19,8 @@ pub const TABLE_AT: usize = 4512;
 pub const RECORD: usize = 264;
 pub const REGISTERS: usize = 256;
 pub const MAX_LIVE: usize = 16;
+/// Depths that no program reaches, and that frame entries and lists may hold nevertheless.
+pub const ODD_DEPTHS: [u16; 6] = [16, 0xFF, 0x100, 0x1234, 0x8000, 0xFFFF];
 pub const FRAME_ENTRY: usize = 8;
 pub const MAX_FRAMES: usize = 1024;
 
@@ -35,7 +37,9 @@ pub const STACK: u8 = 2;
 pub const HEAP: u8 = 3;
 
 pub const LIST_HEADER: usize = 16;
-pub const LIST_ENTRY: usize = 8;
+/// "The change list entry grows from 8 to 12 bytes"
+pub const LIST_ENTRY: usize = 12;
+pub const BASE_LIST_ENTRY: usize = 8;
 
 /// "frame count F", "live invocations D", the two offsets, "a u32 edition (1 older, 2 newer) and a zero u32"
 pub fn control_words(frames: usize, live: usize, edition: u32) -> [u32; 6] {
@@ -48,9 +52,14 @@ pub fn put_words(bytes: &mut [u8], words: &[u32]) {
     }
 }
 
-/// The last three words of a change list's header: "16, 16+8n, total 16+4,104n".
+/// The last three words of a change list's header: 16, "the pages begin at 16+12n", "Totals become 16+4,108n".
 pub fn list_words(count: u64) -> [u64; 3] {
-    let entries = LIST_ENTRY as u64 * count;
+    list_words_by(LIST_ENTRY, count)
+}
+
+/// Of a list whose entries have so many bytes: the base's are "16, 16+8n, total 16+4,104n".
+pub fn list_words_by(entry: usize, count: u64) -> [u64; 3] {
+    let entries = entry as u64 * count;
     let header = LIST_HEADER as u64;
     [header, header + entries, header + entries + PAGE as u64 * count]
 }

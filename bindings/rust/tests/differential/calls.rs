@@ -21,8 +21,10 @@ pub struct Weights {
 
 impl Weights {
     pub fn new(random: &Random, size: Size) -> Weights {
-        if size == Size::Nested {
-            return Weights::nested();
+        match size {
+            Size::Nested => return Weights::nested(),
+            Size::Deep => return Weights::deep(),
+            _ => {}
         }
         // Each history favours one kind, so that some go deep, some grow, some fill the pool.
         let mut kinds = KIND_WEIGHTS;
@@ -34,12 +36,21 @@ impl Weights {
 
     /// Calls, returns and resizes outweigh the rest, so that the heap gets pages at several depths, which outlive their invocations.
     fn nested() -> Weights {
-        let mut kinds = KIND_WEIGHTS;
-        for (weight, _) in kinds.iter_mut().zip(NAMES).filter(|(_, name)| ["call", "return", "resize"].contains(name)) {
-            *weight *= 15;
-        }
+        let kinds = weighted(&[("call", 15), ("return", 15), ("resize", 15)]);
         Weights { kinds, stores: HEAP_ROWS, small_resizes: true }
     }
+
+    /// Calls outweigh returns, so that pages are first stored to at every depth, and lists come often enough to name them.
+    fn deep() -> Weights {
+        let kinds = weighted(&[("call", 10), ("return", 4), ("change_list", 3)]);
+        Weights { kinds, stores: STORE_ROWS, small_resizes: true }
+    }
+}
+
+/// The weights of the kinds, those of some names so many times as large.
+fn weighted(factors: &[(&str, usize)]) -> [usize; KINDS] {
+    let factor = |name: &str| factors.iter().find(|(of, _)| *of == name).map_or(1, |(_, factor)| *factor);
+    std::array::from_fn(|kind| KIND_WEIGHTS[kind] * factor(NAMES[kind]))
 }
 
 /// In the order of `NAMES`.

@@ -4,6 +4,7 @@ use std::collections::BTreeMap;
 
 use crate::absences::Absences;
 use crate::begins::Begins;
+use crate::depths::Depths;
 use crate::discriminants::Discriminants;
 use crate::editions::Editions;
 use crate::interface::{record_call, Answer, Call, KINDS, NAMES};
@@ -44,7 +45,7 @@ pub fn possible(name: &str) -> Vec<Why> {
         "return" => [&FIRST[..], &[Length, Depth]].concat(),
         "resize" => [&FIRST[..], &[UnknownKind, TooManyPages, NoFreeFrame, Unclaimed, Tag]].concat(),
         "change_list" => [&FIRST[..], &[CopyOfNoAccount, CopyOfInvalidEntry, CopyWithoutLiveBytes, CopiedTwice, ShortOutput]].concat(),
-        "apply" => vec![ListLayout, ListOrder, ListLiveCount, ListLiveOfData],
+        "apply" => vec![ListLayout, ListOrder, ListLiveCount, ListZero, ListLiveOfData],
         "page_view" => [&FIRST[..], &[NoAccount, Entry, NoLiveBytes]].concat(),
         name => of_record(name),
     }
@@ -72,6 +73,7 @@ pub struct Coverage {
     places: [u64; 6],
     absences: Absences,
     pub begins: Begins,
+    pub depths: Depths,
     pub discriminants: Discriminants,
     pub editions: Editions,
     pub returns: Returns,
@@ -113,6 +115,7 @@ impl Coverage {
         faults.extend((0..6).filter(unseen).map(|place| format!("translate never answered place {place}")));
         faults.extend(self.absences.faults());
         faults.extend(self.begins.faults());
+        faults.extend(self.depths.faults());
         faults.extend(self.discriminants.faults());
         faults.extend(self.editions.faults());
         faults.extend(self.returns.faults());
@@ -136,6 +139,7 @@ impl Coverage {
         }
         self.absences.print();
         self.begins.print();
+        self.depths.print();
         self.discriminants.print();
         self.editions.print();
         self.returns.print();

@@ -114,7 +114,7 @@ fn frame_entry(random: &Random, world: &World) -> [u8; FRAME_ENTRY] {
     // The account of a region's entry and the last u16 may hold anything.
     put_u16(&mut entry, 2, if usage == COPY { account as u16 } else { random.choose(&[0, 0xFFFF]) });
     put_u16(&mut entry, 4, page as u16);
-    put_u16(&mut entry, 6, random.choose(&[0, 0, 0x1234]));
+    put_u16(&mut entry, 6, random.choose(&[0, depth as u16, random.choose(&ODD_DEPTHS)]));
     entry
 }
 

@@ -5,11 +5,12 @@ use hekthumar::sys::ReadAnswer;
 use crate::calls::{self, Weights};
 use crate::coverage::Coverage;
 use crate::damage;
+use crate::depths::Dropped;
 use crate::discriminants;
 use crate::editions;
 use crate::interface::{Answer, Call, World};
 use crate::library;
-use crate::model::{self, Bug};
+use crate::model::{self, Bug, Planted};
 use crate::random::Random;
 use crate::record_calls;
 use crate::replay::{Replay, Slip};
@@ -30,12 +31,13 @@ pub struct Plan {
 }
 
 impl Plan {
-    /// History `number` of a seed: every second one is damaged, every fourth is nested, and few start from a wide world or one with many
-    /// frames.
+    /// History `number` of a seed: every second one is damaged, every fourth is nested, and few go deep or start from a wide world or one
+    /// with many frames.
     pub fn new(seed: u64, number: u64) -> Plan {
         let size = match number % 64 {
             14 | 15 => Size::SomeFrames,
             30 | 31 => Size::Wide,
+            46 | 47 => Size::Deep,
             63 => Size::TooWide,
             number if number % 8 / 2 == 2 => Size::Nested,
             _ => Size::Small,
@@ -49,7 +51,9 @@ struct Run<'a> {
     random: Random,
     library: World,
     model: World,
+    planted: Planted,
     replay: Option<Replay>,
+    dropped: Dropped,
     coverage: &'a mut Coverage,
     calls: u64,
 }
@@ -60,7 +64,9 @@ pub fn run(plan: Plan, coverage: &mut Coverage) -> Result<(), String> {
     let world = world::generate(&random, plan.size);
     let replay = (!plan.damaged).then(|| Replay::new(&world.snapshot, plan.slip));
     coverage.histories += 1;
-    let mut run = Run { plan, random, library: world.clone(), model: world, replay, coverage, calls: 0 };
+    let planted = Planted::new(plan.bug);
+    let dropped = Dropped::default();
+    let mut run = Run { plan, random, library: world.clone(), model: world, planted, replay, dropped, coverage, calls: 0 };
     run.whole()
 }
 
@@ -73,8 +79,8 @@ impl Run<'_> {
             self.step(call)?;
         }
         self.step(calls::good_begin(&self.random, &self.library))?;
-        // It takes many calls until pages of several depths lie in the heap in an unusual order.
-        let fewest = if self.plan.size == Size::Nested { 140 } else { 40 };
+        // It takes many calls until pages of several depths lie in the heap in an unusual order, or until the deepest program runs.
+        let fewest = if matches!(self.plan.size, Size::Nested | Size::Deep) { 140 } else { 40 };
         for _ in 0..fewest + self.random.below(60) {
             if self.plan.damaged && self.random.chance(35) {
                 self.damaged_step(&weights)?;
@@ -115,8 +121,9 @@ impl Run<'_> {
         let met = editions::met(&call, &self.library);
         let discriminant = discriminants::met(&call, &mut self.library);
         let uses = self.library.uses();
+        let depths = self.dropped.met(&call, &self.library, self.is_replayed());
         let given = library::run(&mut self.library, &mut by_library);
-        let (expected, why) = model::run(&mut self.model, &mut by_model, self.plan.bug);
+        let (expected, why) = model::run(&mut self.model, &mut by_model, &mut self.planted);
         let difference = buffers(&self.library, &by_library).first_difference(buffers(&self.model, &by_model));
         if given != expected || difference.is_some() {
             let bytes = difference.unwrap_or("no byte of a buffer differs".into());
@@ -129,6 +136,8 @@ impl Run<'_> {
         self.coverage.editions.record(met, why);
         self.coverage.discriminants.record(discriminant, why);
         self.coverage.takings.record(takings::case(&call, &given, &uses, &self.library));
+        self.coverage.depths.record(&depths, why);
+        self.dropped.take_in(depths, why);
         let right = self.replayed(&by_library, &given).and_then(|()| self.reads_back(&call, &given));
         self.calls += 1;
         right.map_err(|text| self.place(&format!("{}\n{text}", call.describe())))

@@ -14,6 +14,8 @@ mod bytes;
 mod calls;
 mod coverage;
 mod damage;
+mod depth_trials;
+mod depths;
 mod discriminant_trials;
 mod discriminants;
 mod distances;

@@ -1,13 +1,16 @@
 //! The papers' rules in plain safe Rust over the raw buffers, written for clarity alone. Each rule cites the paper's sentence.
 
 mod access;
+mod apply;
 mod begin;
 mod bug;
 mod control;
+mod depth;
 mod edition;
 mod frames;
 mod invocation;
 mod list;
+mod planted;
 mod presence;
 mod record_mistakes;
 mod records;
@@ -18,6 +21,7 @@ mod why;
 use hekthumar::sys::{Fields, Joined, Outcome, Place, ReadAnswer, Value, View};
 
 pub use bug::Bug;
+pub use planted::Planted;
 pub use why::Why;
 
 use crate::bytes::{number, MAX_DATA, PAGE};
@@ -31,6 +35,8 @@ use why::Refusal;
 struct Vm<'a> {
     world: &'a mut World,
     bug: Option<Bug>,
+    /// How far the depth that the mistake counts is above the right one.
+    ahead: usize,
 }
 
 impl Vm<'_> {
@@ -40,8 +46,16 @@ impl Vm<'_> {
 }
 
 /// One call of the model; beside its answer, why it refused.
-pub fn run(world: &mut World, call: &mut Call, bug: Option<Bug>) -> (Answer, Option<Why>) {
-    let mut vm = Vm { world, bug };
+pub fn run(world: &mut World, call: &mut Call, planted: &mut Planted) -> (Answer, Option<Why>) {
+    let (answer, why) = answered(Vm { world, bug: planted.bug(), ahead: planted.ahead() }, call);
+    if why.is_none() {
+        planted.count(call);
+    }
+    (answer, why)
+}
+
+fn answered(mut vm: Vm, call: &mut Call) -> (Answer, Option<Why>) {
+    let bug = vm.bug;
     match call {
         Call::Join { segment, index, offset } => answer(join(*segment, *index, *offset, bug), Answer::Joined),
         Call::Split { address } => answer(split(*address, bug), Answer::Fields),
@@ -57,7 +71,7 @@ pub fn run(world: &mut World, call: &mut Call, bug: Option<Bug>) -> (Answer, Opt
         Call::Return { registers } => done(vm.return_(&mut registers.0)),
         Call::Resize { region, pages } => done(vm.resize(*region, *pages)),
         Call::ChangeList { out } => done(vm.change_list(&mut out.0)),
-        Call::Apply { list, account, data } => done(list::apply(&list.0, *account, &mut data.0, bug)),
+        Call::Apply { list, account, data } => done(apply::apply(&list.0, *account, &mut data.0, bug)),
         Call::PageView { account, page } => answer(vm.page_view(*account, *page).map(view), Answer::View),
         Call::ReadRecord { shape, address } => read_record(&vm, *shape, *address),
         Call::WriteRecord { address, record } => answer(write_record(&mut vm, *address, record), Answer::Outcome),
@@ -66,7 +80,7 @@ pub fn run(world: &mut World, call: &mut Call, bug: Option<Bug>) -> (Answer, Opt
 
 /// All that a begin is refused for, the first of which it tells; nothing for any other call.
 pub fn begin_refusals(world: &mut World, call: &Call) -> Vec<Why> {
-    let vm = Vm { world, bug: None };
+    let vm = Vm { world, bug: None, ahead: 0 };
     match call {
         Call::Begin { program, edition } => vm.begin_refusals(*program, *edition, 1),
         Call::BeginPages { program, edition, pages } => vm.begin_refusals(*program, *edition, *pages),

@@ -190,9 +190,9 @@ fn a_written_record_is_listed() {
     expect(&mut world, write(DATA + 4, Record::Buffer(THIRD)), 0);
     expect(&mut world, write(DATA + 24, returned(1)), 0);
     expect(&mut world, write(DATA + 100, returned(3)), 14);
-    let listed = expect(&mut world, Call::ChangeList { out: Bytes(vec![0xEE; 4120]) }, 0);
-    let mut expected: Vec<u8> = [1, 16, 24, 4120].into_iter().flat_map(u32::to_le_bytes).collect();
-    expected.extend([0x05, 0x00, 0x00, 0x00, 0x00, 0x10, 0x00, 0x00]);
+    let listed = expect(&mut world, Call::ChangeList { out: Bytes(vec![0xEE; 4124]) }, 0);
+    let mut expected: Vec<u8> = [1, 16, 28, 4124].into_iter().flat_map(u32::to_le_bytes).collect();
+    expected.extend([0x05, 0x00, 0x00, 0x00, 0x00, 0x10, 0x00, 0x00, 0x00, 0x00, 0x00, 0x00]);
     expected.extend([0, 1, 2, 3]);
     expected.extend(THIRD_BYTES);
     expected.extend([20, 21, 22, 23, 1, 0, 0, 0, 0, 0, 0, 0]);

@@ -1,8 +1,8 @@
-//! The replay of document 01: plain copies of the accounts' data and a set of touched pages. It is fed the snapshot, each call's other
-//! arguments except control block and pool, and whether the call was accepted. It knows nothing of frames, so it checks the library
-//! by another way than the model.
+//! The replay of document 01: plain copies of the accounts' data and a set of touched pages, each with the depth at which it was touched
+//! first. It is fed the snapshot, each call's other arguments except control block and pool, and whether the call was accepted. It knows
+//! nothing of frames and counts the depth, so it checks the library by another way than the model.
 
-use std::collections::BTreeSet;
+use std::collections::BTreeMap;
 
 use crate::bytes::*;
 use crate::interface::{Answer, Bytes, Call, World};
@@ -20,10 +20,18 @@ pub enum Slip {
     LosesRecords,
     /// A write told 14 is taken for an accepted one.
     KeepsRefusedRecords,
+    /// A begin leaves the depth as it is.
+    CountsDepthOn,
+    LosesReturns,
+    CountsRefusedCalls,
+    DepthFromOne,
+    DepthOfLastStore,
+    /// Every page has the depth that the history ends at.
+    DepthAtEnd,
 }
 
 impl Slip {
-    pub const ALL: [Slip; 7] = [
+    pub const ALL: [Slip; 13] = [
         Slip::ForgetsBegin,
         Slip::PlainBeginOnly,
         Slip::LosesEqualStore,
@@ -31,6 +39,12 @@ impl Slip {
         Slip::LosesSpans,
         Slip::LosesRecords,
         Slip::KeepsRefusedRecords,
+        Slip::CountsDepthOn,
+        Slip::LosesReturns,
+        Slip::CountsRefusedCalls,
+        Slip::DepthFromOne,
+        Slip::DepthOfLastStore,
+        Slip::DepthAtEnd,
     ];
 }
 
@@ -44,7 +58,10 @@ struct PlainCopy {
 
 pub struct Replay {
     copies: Vec<PlainCopy>,
-    touched: BTreeSet<(u16, u16)>,
+    /// Each page of the set with "the depth at the first accepted store or span store to that page since the latest accepted begin".
+    touched: BTreeMap<(u16, u16), u16>,
+    /// "the accepted calls since that begin less the accepted returns"
+    depth: u16,
     begun: bool,
     slip: Option<Slip>,
 }
@@ -52,7 +69,7 @@ pub struct Replay {
 impl Replay {
     pub fn new(snapshot: &[u8], slip: Option<Slip>) -> Replay {
         let copies = Header::read(snapshot).map_or(vec![], |header| plain_copies(snapshot, &header));
-        Replay { copies, touched: BTreeSet::new(), begun: false, slip }
+        Replay { copies, touched: BTreeMap::new(), depth: 0, begun: false, slip }
     }
 
     pub fn has_begun(&self) -> bool {
@@ -81,6 +98,9 @@ impl Replay {
             (Call::WriteRecord { .. }, _) if self.slip == Some(Slip::LosesRecords) => {}
             (Call::WriteRecord { address, record }, _) => self.store(*address, &record.bytes()),
             (Call::ReadRecord { address, .. }, Answer::Read(read)) => return self.loaded(*address, &read.record.bytes()),
+            (Call::Invoke { .. }, _) => self.depth += 1,
+            (Call::Return { .. }, _) if self.slip == Some(Slip::LosesReturns) => {}
+            (Call::Return { .. }, _) => self.depth -= 1,
             _ => {}
         }
         Ok(())
@@ -88,8 +108,12 @@ impl Replay {
 
     /// "Accepted means answered with 0."
     fn is_accepted(&self, call: &Call, answer: &Answer) -> bool {
-        let slip = self.slip == Some(Slip::KeepsRefusedRecords) && matches!(call, Call::WriteRecord { .. });
-        answer.number() == 0 || (slip && answer.number() == 14)
+        let slips = match call {
+            Call::WriteRecord { .. } => self.slip == Some(Slip::KeepsRefusedRecords) && answer.number() == 14,
+            Call::Invoke { .. } => self.slip == Some(Slip::CountsRefusedCalls),
+            _ => false,
+        };
+        answer.number() == 0 || slips
     }
 
     /// "where demand 3 says begin, it means either"
@@ -104,6 +128,11 @@ impl Replay {
         }
         self.begun = true;
         self.touched.clear();
+        self.depth = match self.slip {
+            Some(Slip::CountsDepthOn) => self.depth,
+            Some(Slip::DepthFromOne) => 1,
+            _ => 0,
+        };
         for copy in &mut self.copies {
             copy.data.copy_from_slice(&copy.original);
         }
@@ -119,7 +148,10 @@ impl Replay {
         }
         target.copy_from_slice(bytes);
         let at = copy.data_at + offset;
-        self.touched.insert((account, (offset / PAGE) as u16));
+        let first = self.touched.entry((account, (offset / PAGE) as u16)).or_insert(self.depth);
+        if self.slip == Some(Slip::DepthOfLastStore) {
+            *first = self.depth;
+        }
         if self.slip == Some(Slip::OverlapShared) {
             self.share(at, bytes);
         }
@@ -173,18 +205,21 @@ impl Replay {
         self.copies.iter().try_for_each(|copy| check_applied(world, copy, &expected))
     }
 
-    /// "an entry for each page of the set and no other, and for each the plain copy's live bytes, then zeros"
+    /// "an entry for each page of the set and no other, and for each the plain copy's live bytes, then zeros"; an entry ends in the depth
+    /// and "a zero u16"
     fn list(&self) -> Vec<u8> {
         let count = self.touched.len();
         let words = [&[count as u64], &list_words(count as u64)[..]].concat();
         let mut list: Vec<u8> = words.iter().flat_map(|&word| (word as u32).to_le_bytes()).collect();
         let mut pages = vec![];
-        for &(account, page) in &self.touched {
+        for (&(account, page), &first) in &self.touched {
             let copy = self.copies.iter().find(|copy| copy.account == account).expect("touched accounts are valid");
             let live = copy.data[PAGE * usize::from(page)..].chunks(PAGE).next().expect("touched pages have live bytes");
             list.extend(account.to_le_bytes());
             list.extend(page.to_le_bytes());
             list.extend((live.len() as u32).to_le_bytes());
+            list.extend(if self.slip == Some(Slip::DepthAtEnd) { self.depth } else { first }.to_le_bytes());
+            list.extend([0, 0]);
             pages.extend(part_or_zeros(live, 0, PAGE));
         }
         list.extend(pages);

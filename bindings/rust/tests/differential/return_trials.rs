@@ -13,7 +13,7 @@ const TRANSACTION: u64 = 0x0000_0100_0000;
 const STACK_TOP: u64 = 0x0500_00FF_F000;
 const HEAP_AT: u64 = 0x0700_0000_0000;
 
-/// A frame's entry (use, tag, account, page, zero), and whether a return zeroes it that lowers D from 3: D-1 is 2.
+/// A frame's entry (use, tag, account, page, depth), and whether a return zeroes it that lowers D from 3: D-1 is 2.
 const ENTRIES: [([u8; 8], bool); 16] = [
     ([2, 0, 0, 0, 0xFF, 0x0F, 0, 0], false),
     ([2, 1, 0, 0, 0xFE, 0x0F, 0, 0], false),

@@ -4,7 +4,7 @@
 use crate::bytes::*;
 use crate::interface::{Bytes, Call, World};
 use crate::library;
-use crate::model;
+use crate::model::{self, Planted};
 
 const ACCOUNTS: usize = 2;
 const PAGES: usize = 100;
@@ -35,7 +35,7 @@ impl Both {
     fn give(&mut self, call: Call) -> Call {
         let (mut by_library, mut by_model) = (call.clone(), call);
         let given = library::run(&mut self.0, &mut by_library);
-        let (expected, _) = model::run(&mut self.1, &mut by_model, None);
+        let (expected, _) = model::run(&mut self.1, &mut by_model, &mut Planted::default());
         assert_eq!((given.number(), &given), (0, &expected), "{}", by_library.describe());
         assert!(self.0 == self.1 && by_library == by_model, "{}", by_library.describe());
         by_library
@@ -55,9 +55,19 @@ impl Both {
     fn resize(&mut self, region: u8, pages: usize) {
         self.give(Call::Resize { region, pages });
     }
+
+    /// With registers that have this in every byte.
+    fn call(&mut self, byte: usize) {
+        self.give(Call::Invoke { program: 0, registers: Bytes(vec![byte as u8; 256]) });
+    }
+
+    fn return_(&mut self) {
+        self.give(Call::Return { registers: Bytes(vec![0; 256]) });
+    }
 }
 
-/// Takes copies of the pages in this order, with stack and heap pages between them, and asks for each page before and after.
+/// Takes copies of the pages in this order, with stack and heap pages between them and at depths that rise, and asks for each page before
+/// and after.
 fn taken(order: impl Iterator<Item = usize>) {
     let world = world();
     let mut both = Both(world.clone(), world);
@@ -70,15 +80,19 @@ fn taken(order: impl Iterator<Item = usize>) {
             both.resize(2 + (turn / 16 % 2) as u8, turn / 8 + 1);
             both.give(Call::Load { address: 0x0500_00FF_F000, size: 8 });
         }
+        if turn % 8 == 7 {
+            both.call(turn);
+        }
     }
     let Call::ChangeList { out } = both.give(Call::ChangeList { out: Bytes(vec![0x55; LIST_HEADER + (LIST_ENTRY + PAGE) * PAGES]) }) else {
         unreachable!()
     };
     both.give(Call::Apply { list: out, account: 1, data: Bytes(world_data(&both.0)) });
-    both.give(Call::Invoke { program: 0, registers: Bytes(vec![7; 256]) });
+    (0..PAGES / 8).for_each(|_| both.return_());
+    both.call(7);
     both.resize(2, 18);
     both.resize(3, 14);
-    both.give(Call::Return { registers: Bytes(vec![0; 256]) });
+    both.return_();
     // The last heap page that the callee left has its frame behind those of all stack pages, before those of all copies.
     both.give(Call::Store { address: 0x0700_0000_D000, size: 8, value: 9 });
     for pages in [3, 1, 0] {
@@ -117,11 +131,11 @@ fn returns_over_both_regions() {
         both.resize(STACK, pages);
         both.resize(HEAP, pages);
         if pages % 10 == 0 {
-            both.give(Call::Invoke { program: 0, registers: Bytes(vec![pages as u8; 256]) });
+            both.call(pages);
         }
     }
     for live in (1..=FRAMES / 20).rev() {
-        both.give(Call::Return { registers: Bytes(vec![0; 256]) });
+        both.return_();
         assert_eq!((both.0.region_size(STACK), both.0.region_size(HEAP)), (10 * live, FRAMES / 2));
         assert_eq!((both.0.frames_used_as(STACK), both.0.frames_used_as(HEAP)), (10 * live, FRAMES / 2));
     }

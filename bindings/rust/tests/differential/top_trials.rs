@@ -17,6 +17,7 @@ const FIVE_PAGES: usize = 20_000;
 
 const FREE_ENTRY: [u8; 8] = [0; 8];
 
+/// Of a copy that was taken at depth 0.
 fn copy_entry(page: u8) -> [u8; 8] {
     [1, 0, 5, 0, page, 0, 0, 0]
 }
@@ -68,7 +69,7 @@ fn with_table(length: usize, entries: &[[u8; 8]]) -> World {
 }
 
 fn list(world: &mut World, pages: usize) -> Vec<u8> {
-    let call = expect(world, Call::ChangeList { out: Bytes(vec![0xEE; 16 + 4104 * pages]) }, 0);
+    let call = expect(world, Call::ChangeList { out: Bytes(vec![0xEE; 16 + 4108 * pages]) }, 0);
     let Call::ChangeList { out } = call else { unreachable!("the call keeps its kind") };
     out.0
 }
@@ -87,8 +88,8 @@ fn the_case_of_01() {
     let mut page: Vec<u8> = (4096..6000).map(original).chain([0; 2192]).collect();
     (page[4], page[8]) = (0x11, 0x22);
     assert!(world.pool == [&begun.pool[..3 * 4096], &page].concat());
-    let words = [1, 16, 24, 4120].into_iter().flat_map(u32::to_le_bytes);
-    assert!(list(&mut world, 1) == words.chain([5, 0, 1, 0, 0x70, 7, 0, 0]).chain(page).collect::<Vec<u8>>());
+    let words = [1, 16, 28, 4124].into_iter().flat_map(u32::to_le_bytes);
+    assert!(list(&mut world, 1) == words.chain([5, 0, 1, 0, 0x70, 7, 0, 0, 0, 0, 0, 0]).chain(page).collect::<Vec<u8>>());
     expect(&mut world, store(0), 0);
     assert_eq!(table(&world), [stack_entry(0, 4095), FREE_ENTRY, copy_entry(0), copy_entry(1)]);
 }
@@ -210,9 +211,11 @@ fn above_an_older_copy() {
     expect(&mut world, resize(HEAP, 0), 0);
     expect(&mut world, store(4), 0);
     expect(&mut world, Call::Return { registers: Bytes(vec![0; REGISTERS]) }, 0);
-    assert_eq!(table(&world), [stack_entry(0, 4095), copy_entry(4), FREE_ENTRY, FREE_ENTRY]);
+    // Taken at depth 1.
+    let older = [1, 0, 5, 0, 4, 0, 1, 0];
+    assert_eq!(table(&world), [stack_entry(0, 4095), older, FREE_ENTRY, FREE_ENTRY]);
     expect(&mut world, store(0), 0);
-    assert_eq!(table(&world), [stack_entry(0, 4095), copy_entry(4), FREE_ENTRY, copy_entry(0)]);
+    assert_eq!(table(&world), [stack_entry(0, 4095), older, FREE_ENTRY, copy_entry(0)]);
 }
 
 /// "The frame of a page is the lowest-numbered entry that claims it": taking from the top does not turn that round.
@@ -234,8 +237,10 @@ fn the_list_does_not_follow_the_frames() {
         pages.into_iter().for_each(|page| drop(expect(&mut world, store(page), 0)));
         list(&mut world, 3)
     };
-    let mut expected: Vec<u8> = [3, 16, 40, 12_328].into_iter().flat_map(u32::to_le_bytes).collect();
-    expected.extend([5, 0, 0, 0, 0, 0x10, 0, 0, 5, 0, 2, 0, 0, 0x10, 0, 0, 5, 0, 4, 0, 0x20, 0x0E, 0, 0]);
+    let mut expected: Vec<u8> = [3, 16, 52, 12_340].into_iter().flat_map(u32::to_le_bytes).collect();
+    for (page, live) in [(0, [0, 0x10]), (2, [0, 0x10]), (4, [0x20, 0x0E])] {
+        expected.extend([5, 0, page, 0, live[0], live[1], 0, 0, 0, 0, 0, 0]);
+    }
     for page in [0, 2, 4] {
         let live = (0..4096).map(|place| 4096 * page + place).map(|place| if place < FIVE_PAGES { original(place) } else { 0 });
         expected.extend(live.enumerate().map(|(place, byte)| if place == 4 { 0x11 } else { byte }));

@@ -1,12 +1,13 @@
 //! Document 01's "Trials at the edges", given to the library and to the model: here the expected numbers are the papers' own, so that
 //! the two cannot agree on a wrong one. Where a trial's byte is not present, 02 makes the number 13, and the first byte is the absent one.
+//! The words of the change list are 02's, too.
 
 use hekthumar::sys::{Fields, Joined};
 
 use crate::bytes::*;
 use crate::interface::{Answer, Bytes, Call, World};
 use crate::library;
-use crate::model;
+use crate::model::{self, Planted};
 
 const ACCOUNTS: usize = 6;
 const TRANSACTION: usize = 0x4D;
@@ -40,7 +41,7 @@ pub fn expect_with(world: &mut World, call: Call, number: u8, distance: u64) -> 
     let told = |answer: Answer| (answer.number(), answer.distance().unwrap_or(0));
     let (mut by_library, mut by_model) = (call.clone(), call);
     let mut models = world.clone();
-    let (answer, _) = model::run(&mut models, &mut by_model, None);
+    let (answer, _) = model::run(&mut models, &mut by_model, &mut Planted::default());
     assert_eq!(told(answer), (number, distance), "model: {}", by_model.describe());
     let answer = library::run(world, &mut by_library);
     assert_eq!(told(answer), (number, distance), "library: {}", by_library.describe());
@@ -54,7 +55,7 @@ pub fn expect(world: &mut World, call: Call, number: u8) -> Call {
 
 /// Gives the call, which changes no buffer, to both, which must give this answer.
 pub fn expect_answer(world: &mut World, mut call: Call, answer: Answer) {
-    assert_eq!(model::run(world, &mut call, None).0, answer, "model: {}", call.describe());
+    assert_eq!(model::run(world, &mut call, &mut Planted::default()).0, answer, "model: {}", call.describe());
     assert_eq!(library::run(world, &mut call), answer, "library: {}", call.describe());
 }
 
@@ -133,9 +134,10 @@ fn change_list() {
     assert_eq!(empty, Call::ChangeList { out: Bytes([0, 16, 16, 16].into_iter().flat_map(u32::to_le_bytes).collect()) });
     expect(&mut world, Call::Store { address: 0x0300_0500_1004, size: 1, value: 0x11 }, 0);
     expect(&mut world, Call::Store { address: 0x0300_0500_1008, size: 1, value: 0x22 }, 0);
-    let listed = expect(&mut world, Call::ChangeList { out: Bytes(vec![0xEE; 4120]) }, 0);
-    let mut expected: Vec<u8> = [1, 16, 24, 4120].into_iter().flat_map(u32::to_le_bytes).collect();
-    expected.extend([0x05, 0x00, 0x01, 0x00, 0x70, 0x07, 0x00, 0x00]);
+    let listed = expect(&mut world, Call::ChangeList { out: Bytes(vec![0xEE; 4124]) }, 0);
+    // "In 01's case the words are 1, 16, 28, 4124."
+    let mut expected: Vec<u8> = [1, 16, 28, 4124].into_iter().flat_map(u32::to_le_bytes).collect();
+    expected.extend([0x05, 0x00, 0x01, 0x00, 0x70, 0x07, 0x00, 0x00, 0x00, 0x00, 0x00, 0x00]);
     expected.extend((PAGE..DATA).map(|place| match place {
         0x1004 => 0x11,
         0x1008 => 0x22,

@@ -12,6 +12,8 @@ pub enum Size {
     Small,
     /// Frames enough for pages of several depths, and a program to call.
     Nested,
+    /// As above, for calls that outnumber the returns.
+    Deep,
     /// Sometimes 64 accounts, 512 contexts, a transaction of 65,536 bytes.
     Wide,
     /// One more than the header may say of accounts, contexts or transaction bytes, all else agreeing.
@@ -40,7 +42,7 @@ pub fn generate(random: &Random, size: Size) -> World {
     let frames = match size {
         Size::ManyFrames => MAX_FRAMES,
         Size::TooManyFrames => MAX_FRAMES + 1,
-        Size::Nested => random.choose(&[8, 10, 12, 14]),
+        Size::Nested | Size::Deep => random.choose(&[8, 10, 12, 14]),
         Size::SomeFrames => random.choose(&[16, 17, 24, 31, 32, 33, 40, 63, 64]),
         _ => random.choose(&[0, 1, 2, 3, 4, 5, 6, 8, 10, 12]),
     };
@@ -208,10 +210,15 @@ impl World {
         entries.find(|entry| entry[0] == region && usize::from(u16_at(entry, 4)) == page).map(|entry| entry[1].into())
     }
 
+    /// Account, page and depth by the entry of each copy, lowest frame first.
+    pub fn copies(&self) -> Vec<[u16; 3]> {
+        let entries = self.control.get(TABLE_AT..).unwrap_or(&[]).chunks_exact(FRAME_ENTRY);
+        entries.filter(|entry| entry[0] == COPY).map(|entry| [2, 4, 6].map(|field| u16_at(entry, field))).collect()
+    }
+
     /// A copy claims this page of an account.
     pub fn is_copied(&self, account: usize, page: usize) -> bool {
-        let mut entries = self.control.get(TABLE_AT..).unwrap_or(&[]).chunks_exact(FRAME_ENTRY);
-        entries.any(|entry| entry[0] == COPY && [u16_at(entry, 2), u16_at(entry, 4)].map(usize::from) == [account, page])
+        self.copies().iter().any(|copy| [copy[0], copy[1]].map(usize::from) == [account, page])
     }
 
     pub fn frames(&self) -> usize {

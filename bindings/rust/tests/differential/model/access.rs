@@ -267,14 +267,13 @@ impl Vm<'_> {
     pub fn store(&mut self, kind: Kind, address: u64, bytes: &[u8]) -> Result<(), Refusal> {
         let at = match self.translate(Some(kind), address, bytes.len())? {
             Spot::Pool(at) => {
-                if self.has(Bug::SecondStoreCopiesAgain) && self.frame_entry(at / PAGE).usage == COPY {
-                    self.copy_original(at / PAGE);
-                }
+                self.touch_again(at / PAGE);
                 at
             }
             Spot::Take { frame, account, page, at } => {
-                // "writes its entry (use 1, tag 0, account, page, 0)"
-                self.set_frame_entry(frame, FrameEntry { usage: COPY, tag: 0, account, page });
+                // "writes its entry (use 1, tag 0, account, page, 0)", whose last u16 "becomes, for copies, the depth"
+                let (tag, depth) = (self.tag_of_copy(), self.depth_of_copy(kind));
+                self.set_frame_entry(frame, FrameEntry { usage: COPY, tag, account, page, depth });
                 self.copy_original(frame);
                 at
             }
@@ -284,6 +283,18 @@ impl Vm<'_> {
         let written = if truncated { &bytes[..4] } else { bytes };
         self.world.pool[at..at + written.len()].copy_from_slice(written);
         Ok(())
+    }
+
+    /// "A page with a frame is stored to in that frame", whose entry and other bytes stay, but for these mistakes.
+    fn touch_again(&mut self, frame: usize) {
+        let entry = self.frame_entry(frame);
+        match self.bug {
+            Some(Bug::SecondStoreCopiesAgain) if entry.usage == COPY => self.copy_original(frame),
+            Some(Bug::DepthOfLastStore) if entry.usage == COPY => {
+                self.set_frame_entry(frame, FrameEntry { depth: self.depth() as u16, ..entry });
+            }
+            _ => {}
+        }
     }
 
     /// "copies the page's original bytes, fills the rest with zeros"

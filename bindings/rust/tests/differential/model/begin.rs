@@ -123,7 +123,7 @@ impl Vm<'_> {
         };
         let usage = if self.has(Bug::BeginPageIsHeap) { HEAP } else { STACK };
         let tag = if self.has(Bug::BeginPageTagOne) { 1 } else { 0 };
-        self.set_frame_entry(frame, FrameEntry { usage, tag, account: 0, page: page as u16 });
+        self.set_frame_entry(frame, FrameEntry { usage, tag, account: 0, page: page as u16, depth: 0 });
         let zeroed = match self.bug {
             Some(Bug::BeginPageNotZeroed) => 0,
             Some(Bug::BeginZeroesPastFrame) => PAGE + 1,

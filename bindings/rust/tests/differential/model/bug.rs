@@ -129,6 +129,24 @@ bugs! {
     FreeingKeepsLastWord,
     TakingKeepsLastWord,
 
+    // The depth that a copy's entry keeps.
+    DepthOfLastStore,
+    /// D in place of D-1.
+    DepthIsLive,
+    /// A library that counts by itself, and not by the control block.
+    DepthCountedOverBegins,
+    DepthNotLoweredByReturns,
+    StoreTakesDepthZero,
+    /// A span store's copy and a record's.
+    SpanTakesDepthZero,
+    RecordTakesDepthZero,
+    CopyTagTakesDepth,
+    StackPageTakesDepth,
+    HeapPageTakesDepth,
+    CopyClaimNeedsDepthZero,
+    /// A page is copied again at another depth.
+    CopyClaimNeedsOwnDepth,
+
     // The begins.
     BeginKeepsFrameTable,
     BeginAsksControlHeader,
@@ -297,4 +315,35 @@ bugs! {
     ViewPastLiveBytes,
     ViewReadsOriginal,
     RefusedSpanClearsBuffer,
+
+    // The change list: layout and depths.
+    /// Entries of 8 bytes.
+    ListOfBaseLayout,
+    /// Of the current invocation, whatever the entries hold.
+    ListDepthAtCall,
+    ListDepthFromTag,
+    /// The zero comes first.
+    ListDepthBehindZero,
+    ListDepthBigEndian,
+    /// The low 8 bits alone.
+    ListDepthAsByte,
+    /// The use and the tag of the next frame's entry come behind it.
+    ListDepthAs32Bits,
+    /// 1 for a depth that no program reaches.
+    ListAsksDepth,
+    /// Two copies of a page with unequal depths are both listed.
+    ListTellsClaimsByDepth,
+
+    // Apply: layout, depths, and the last u16 of an entry.
+    /// As well as the right one.
+    ApplyTakesBaseLayout,
+    ApplyIgnoresZero,
+    ApplyAsksZeroOfOwn,
+    ApplyAsksZeroOfOthers,
+    ApplyAsksZeroOfFirst,
+    /// The low 8 bits alone.
+    ApplyAsksZeroAsByte,
+    ApplyAsksDepthZero,
+    /// A depth that no program reaches is refused.
+    ApplyAsksDepth,
 }

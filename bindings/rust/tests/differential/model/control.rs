@@ -13,6 +13,8 @@ pub struct FrameEntry {
     pub tag: u8,
     pub account: u16,
     pub page: u16,
+    /// "for copies, the depth at the store that made the copy; stack and heap keep 0"
+    pub depth: u16,
 }
 
 impl Vm<'_> {
@@ -85,7 +87,8 @@ impl Vm<'_> {
     pub fn frame_entry(&self, frame: usize) -> FrameEntry {
         let at = TABLE_AT + FRAME_ENTRY * frame;
         let control = &self.world.control;
-        FrameEntry { usage: control[at], tag: control[at + 1], account: u16_at(control, at + 2), page: u16_at(control, at + 4) }
+        let [account, page, depth] = [2, 4, 6].map(|field| u16_at(control, at + field));
+        FrameEntry { usage: control[at], tag: control[at + 1], account, page, depth }
     }
 
     pub fn set_frame_entry(&mut self, frame: usize, entry: FrameEntry) {
@@ -97,13 +100,13 @@ impl Vm<'_> {
         put_u16(control, at + 2, entry.account);
         put_u16(control, at + 4, entry.page);
         if !keeps_last_word {
-            put_u16(control, at + 6, 0);
+            put_u16(control, at + 6, entry.depth);
         }
     }
 
     /// "Freeing zeroes the entry and leaves the pool bytes."
     pub fn free_frame(&mut self, frame: usize) {
-        self.set_frame_entry(frame, FrameEntry { usage: FREE, tag: 0, account: 0, page: 0 });
+        self.set_frame_entry(frame, FrameEntry { usage: FREE, tag: 0, account: 0, page: 0, depth: 0 });
     }
 
     /// "The frame of a page is the lowest-numbered entry that claims it."
@@ -117,8 +120,15 @@ impl Vm<'_> {
 
     /// "A copy claims by account and page"
     pub fn claim_of_copy(&self, account: u16, page: u16) -> Option<usize> {
-        let tag_right = |entry: &FrameEntry| entry.tag == 0 || !self.has(Bug::CopyClaimNeedsTagZero);
-        let claims = |entry: &FrameEntry| entry.usage == COPY && entry.account == account && entry.page == page && tag_right(entry);
+        let claims = |entry: &FrameEntry| {
+            let right = match self.bug {
+                Some(Bug::CopyClaimNeedsTagZero) => entry.tag == 0,
+                Some(Bug::CopyClaimNeedsDepthZero) => entry.depth == 0,
+                Some(Bug::CopyClaimNeedsOwnDepth) => usize::from(entry.depth) == self.depth(),
+                _ => true,
+            };
+            entry.usage == COPY && entry.account == account && entry.page == page && right
+        };
         self.claim(claims, self.has(Bug::CopyFoundFromTop))
     }
 

@@ -80,7 +80,8 @@ impl Vm<'_> {
         }
         let tag = if self.has(Bug::GrowthTagZero) { 0 } else { self.depth() as u8 };
         for (frame, distance) in free.into_iter().zip(distances) {
-            self.set_frame_entry(frame, FrameEntry { usage: region, tag, account: 0, page: from_base(region, distance) as u16 });
+            let (page, depth) = (from_base(region, distance) as u16, self.depth_of_region(region));
+            self.set_frame_entry(frame, FrameEntry { usage: region, tag, account: 0, page, depth });
             if !self.has(Bug::GrownPageNotZeroed) {
                 self.world.pool[PAGE * frame..PAGE * (frame + 1)].fill(0);
             }

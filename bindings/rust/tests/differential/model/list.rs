@@ -1,17 +1,19 @@
-//! The change list, its application, and the page view.
+//! The change list, and the page view.
 
 use super::bug::Bug;
+use super::control::FrameEntry;
 use super::snapshot::Header;
 use super::why::Why;
 use super::Vm;
 use crate::bytes::*;
 
-/// A page of the list: who it is, where its bytes are, how many count.
+/// A page of the list: who it is, where its bytes are, how many count, how deep it was first touched.
 struct Changed {
     account: u16,
     page: u16,
     frame: usize,
     live: usize,
+    depth: u16,
 }
 
 /// A part of the snapshot or of the pool.
@@ -28,21 +30,16 @@ impl Vm<'_> {
         if !self.has(Bug::ListUnsorted) {
             changed.sort_by_key(|page| (page.account, page.page));
         }
-        // "count n, 16, 16+8n, total 16+4,104n"
         let count = changed.len();
-        let pages_at = LIST_HEADER + LIST_ENTRY * count;
-        let total = pages_at + PAGE * count;
+        let entry = if self.has(Bug::ListOfBaseLayout) { BASE_LIST_ENTRY } else { LIST_ENTRY };
+        // "count n, 16, 16+8n, total 16+4,104n", with the numbers of entries of 12 bytes
+        let [header, pages_at, total] = list_words_by(entry, count as u64).map(|word| word as usize);
         if out.len() < total {
             return Err(Why::ShortOutput);
         }
-        for (word, value) in [count, LIST_HEADER, pages_at, total].into_iter().enumerate() {
-            put_u32(out, 4 * word, value as u32);
-        }
+        put_words(out, &[count, header, pages_at, total].map(|word| word as u32));
         for (place, page) in changed.iter().enumerate() {
-            let at = LIST_HEADER + LIST_ENTRY * place;
-            put_u16(out, at, page.account);
-            put_u16(out, at + 2, page.page);
-            put_u32(out, at + 4, page.live as u32);
+            out[header + entry * place..][..entry].copy_from_slice(&self.list_entry(page)[..entry]);
             // "each the frame's live bytes and then zeros"
             let shown = if self.has(Bug::ListPadsWithFrameBytes) { PAGE } else { page.live };
             let target = &mut out[pages_at + PAGE * place..][..PAGE];
@@ -56,6 +53,18 @@ impl Vm<'_> {
         Ok(())
     }
 
+    /// "u16, u16, u32 live bytes", "then that u16, then a zero u16"
+    fn list_entry(&self, page: &Changed) -> [u8; LIST_ENTRY] {
+        let mut entry = [0; LIST_ENTRY];
+        put_u16(&mut entry, 0, page.account);
+        put_u16(&mut entry, 2, page.page);
+        put_u32(&mut entry, 4, page.live as u32);
+        let [depth, zero] = self.listed_depth(page.frame);
+        put_u16(&mut entry, 8, depth);
+        put_u16(&mut entry, 10, zero);
+        entry
+    }
+
     /// "1 if a copy claims an account not below A, an unfit one, a page with no live bytes, or a page claimed before"
     fn changed_pages(&self, header: &Header) -> Result<Vec<Changed>, Why> {
         let mut changed: Vec<Changed> = vec![];
@@ -64,20 +73,30 @@ impl Vm<'_> {
             if claimed.usage != COPY {
                 continue;
             }
-            let (account, page) = (claimed.account, claimed.page);
+            let FrameEntry { account, page, depth, .. } = claimed;
             if usize::from(account) >= header.accounts {
                 return Err(Why::CopyOfNoAccount);
             }
             let entry = self.entry(header, account).map_err(|_| Why::CopyOfInvalidEntry)?;
             let live = live_bytes(entry.length, page);
-            if live == 0 || (self.has(Bug::ListAsksLeaveToWrite) && !entry.writable) {
+            let mistaken = match self.bug {
+                Some(Bug::ListAsksLeaveToWrite) => !entry.writable,
+                Some(Bug::ListAsksDepth) => usize::from(depth) >= MAX_LIVE,
+                _ => false,
+            };
+            if live == 0 || mistaken {
                 return Err(Why::CopyWithoutLiveBytes);
             }
-            let before = changed.iter().any(|earlier| (earlier.account, earlier.page) == (account, page));
-            if before && !self.has(Bug::ListAcceptsDoubleClaim) {
+            // Also where only the depths differ.
+            let is_same = |earlier: &Changed| match self.bug {
+                Some(Bug::ListAcceptsDoubleClaim) => false,
+                Some(Bug::ListTellsClaimsByDepth) => (earlier.account, earlier.page, earlier.depth) == (account, page, depth),
+                _ => (earlier.account, earlier.page) == (account, page),
+            };
+            if changed.iter().any(is_same) {
                 return Err(Why::CopiedTwice);
             }
-            changed.push(Changed { account, page, frame, live });
+            changed.push(Changed { account, page, frame, live, depth });
         }
         Ok(changed)
     }
@@ -100,60 +119,4 @@ impl Vm<'_> {
             None => Part::Snapshot { start: entry.data_at + PAGE * usize::from(page), length },
         })
     }
-}
-
-/// Entries of a list whose layout is right.
-fn listed(list: &[u8], count: usize) -> Vec<Changed> {
-    let entry = |place: usize| {
-        let at = LIST_HEADER + LIST_ENTRY * place;
-        Changed { account: u16_at(list, at), page: u16_at(list, at + 2), live: u32_at(list, at + 4) as usize, frame: place }
-    };
-    (0..count).map(entry).collect()
-}
-
-/// The count of a list with "exactly that layout (it may be longer than its total ...)".
-fn count_of_list(list: &[u8], bug: Option<Bug>) -> Result<usize, Why> {
-    if list.len() < LIST_HEADER {
-        return Err(Why::ListLayout);
-    }
-    let words: Vec<u64> = (0..4).map(|word| u64::from(u32_at(list, 4 * word))).collect();
-    let count = words[0];
-    let expected = list_words(count);
-    if bug == Some(Bug::ApplyWrapsTotal) && expected.map(|word| word & 0xFFFF_FFFF) == words[1..] {
-        return Ok(((list.len() - LIST_HEADER) / (LIST_ENTRY + PAGE)).min(count as usize));
-    }
-    let length_right = list.len() as u64 == words[3] || (list.len() as u64 > words[3] && bug != Some(Bug::ApplyRefusesLongerList));
-    (expected == words[1..] && length_right).then_some(count as usize).ok_or(Why::ListLayout)
-}
-
-pub fn apply(list: &[u8], account: u16, data: &mut [u8], bug: Option<Bug>) -> Result<(), Why> {
-    let count = count_of_list(list, bug)?;
-    let entries = listed(list, count);
-    // "entries strictly ascending"
-    let key = |entry: &Changed| (entry.account, entry.page);
-    let equal_allowed = bug == Some(Bug::ApplyAcceptsEqualKeys);
-    let ascending = |pair: &[Changed]| key(&pair[0]) < key(&pair[1]) || (equal_allowed && key(&pair[0]) == key(&pair[1]));
-    if !entries.windows(2).all(ascending) {
-        return Err(Why::ListOrder);
-    }
-    // "every live count 1..4,096"
-    if !entries.iter().all(|entry| (1..=PAGE).contains(&entry.live)) {
-        return Err(Why::ListLiveCount);
-    }
-    // "each entry of this account has the live count that this data length gives"
-    let own: Vec<&Changed> = entries.iter().filter(|entry| entry.account == account).collect();
-    let right = |entry: &&Changed| entry.live == live_bytes(data.len(), entry.page);
-    if !own.iter().all(right) && bug != Some(Bug::ApplyIgnoresLiveCount) {
-        return Err(Why::ListLiveOfData);
-    }
-    // "Its live bytes replace the page."
-    let pages_at = LIST_HEADER + LIST_ENTRY * count;
-    for entry in own {
-        let (from, to) = (pages_at + PAGE * entry.frame, PAGE * usize::from(entry.page));
-        let replaced = entry.live.min(data.len().saturating_sub(to));
-        if let Some(target) = data.get_mut(to..to + replaced) {
-            target.copy_from_slice(&list[from..from + replaced]);
-        }
-    }
-    Ok(())
 }

@@ -1,7 +1,8 @@
 //! What planted mistakes make of records.
 
-use super::access::Kind;
+use super::access::{Kind, Spot};
 use super::bug::Bug;
+use super::control::FrameEntry;
 use super::why::{Refusal, Why};
 use super::Vm;
 use crate::record::{Field, Record, Shape};
@@ -106,9 +107,22 @@ impl Vm<'_> {
         if self.asks_alignment(address) && self.translate(Some(Kind::StoreSpan), address, bytes.len()).is_ok() {
             return Some(Err(Why::Misaligned.into()));
         }
+        if self.has(Bug::RecordTakesDepthZero) {
+            return Some(self.store_at_depth_zero(address, &bytes));
+        }
         let by_fields = self.has(Bug::WrittenByFields).then(|| record.shape().layout())?;
         let store = |&(at, width): &Field| self.store(Kind::StoreSpan, address.wrapping_add(at as u64), &bytes[at..at + width]);
         Some(by_fields.iter().try_for_each(store))
+    }
+
+    /// Where the span store takes a copy, its entry is written with the depth 0.
+    fn store_at_depth_zero(&mut self, address: u64, bytes: &[u8]) -> Result<(), Refusal> {
+        let spot = self.translate(Some(Kind::StoreSpan), address, bytes.len())?;
+        self.store(Kind::StoreSpan, address, bytes)?;
+        if let Spot::Take { frame, .. } = spot {
+            self.set_frame_entry(frame, FrameEntry { depth: 0, ..self.frame_entry(frame) });
+        }
+        Ok(())
     }
 
     /// What a record is refused for that no rule names.

@@ -34,6 +34,7 @@ pub enum Why {
     ListLayout,
     ListOrder,
     ListLiveCount,
+    ListZero,
     ListLiveOfData,
     NotPresent,
     NoLiveBytes,
@@ -58,7 +59,7 @@ impl Why {
             Depth => 9,
             TooManyPages => 10,
             ShortOutput => 11,
-            ListLayout | ListOrder | ListLiveCount | ListLiveOfData => 12,
+            ListLayout | ListOrder | ListLiveCount | ListZero | ListLiveOfData => 12,
             NotPresent | NoLiveBytes => 13,
             Discriminant => 14,
         }

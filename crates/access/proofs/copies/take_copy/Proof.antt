@@ -1,15 +1,17 @@
 -- `access::copies::take_copy` meets its contract: the page's live bytes lie in the snapshot, and with zeros behind them they are its
 -- original bytes. Assumes nothing.
 use Prim.Native.Nat.{ℕ, _+_, _-_, _^_, _≤_, _<_}
-use mathlib.Core.Path.{_≡_, _∙_}
+use mathlib.Core.Path.{_≡_, ap, _∙_}
 use mathlib.Core.List.{List}
 use native.Mathlib.Omega.{arith}
 use lib.ListN.{length}
 use borrow.Author.Needs.{needs}
 use Rattle.layout.specs.Page.{pageSize}
+use Rattle.layout.specs.Control.{usageCopy}
 use Rattle.words.specs.Words.{splice, bytesAt, zeros}
 use Rattle.words.proofs.Splice.{splice-append}
 use Rattle.words.proofs.Run.{length-bytesAt}
+use Rattle.control.proofs.Facts.{control-facts}
 use Rattle.snapshot.specs.Accounts.{entryOf, dataLength}
 use Rattle.snapshot.specs.declared.accounts.Account.{Account}
 use Rattle.snapshot.specs.declared.accounts.AccountEntry.{AccountEntry}
@@ -17,6 +19,7 @@ use Rattle.snapshot.proofs.Facts.{snapshot-facts, entry-inside, data-inside}
 use Rattle.pages.specs.Pages.{pageStart, frameStart, liveOf, live}
 use Rattle.pages.specs.declared.Page.{Page}
 use Rattle.pages.proofs.PageBytes.{live-inside, live-positive, original-page-is}
+use Rattle.frames.specs.Table.{putFrameEntry}
 use Rattle.translate.specs.Fits.{CopyFits}
 use Rattle.translate.specs.declared.place.NewCopy.{NewCopy}
 use Rattle.access.specs.Stores.{takenPool}
@@ -55,11 +58,19 @@ module _ (s c p : List ℕ) (t : NewCopy) (h : CopyFits s c p t) {e : AccountEnt
         let n : length (bytesAt (live s a q) s (entryOf s a .start + pageStart q)) ≡ live s a q = length-bytesAt _ _ _ in
         y ∙ rw (x, u, v, is, count, original-page-is s a q, splice-append, n)
 
+-- the entry that is written, by how many invocations are live
+abbrev counted : List ℕ → NewCopy → ℕ → List ℕ
+counted c t n = putFrameEntry c (t .frame .0) (record { usage = usageCopy; tag = 0; account = t .account; page = t .page; depth = n - 1 })
+
 -- ---- the points of the function
+
+-- the start, from where the live invocations are counted
+abbrev first-of : tie.After-invocation-count → tie.Start
+first-of c = c .before .before .before .before .before .before .before
 
 -- the start, from where the entry is written
 abbrev start-of : tie.After-put-frame-entry → tie.Start
-start-of c = c .before .before .before .before .before .before .before
+start-of c = first-of (c .before .before)
 
 -- the entry's writing, from where the account is read
 abbrev written-of : tie.After-whole-account-entry → tie.After-put-frame-entry
@@ -72,6 +83,15 @@ read-of c = c .before .before .before .before .before .before
 -- the copy's places, from where the rest is cleared
 abbrev placed-of : tie.After-clear-arg → tie.After-struct-known
 placed-of c = c .before .before .before .before
+
+invocation-count-requires : tie.Need-invocation-count-requires
+invocation-count-requires c κs = control-facts _ (c .before .before .before .before .before .before .pre .control) .header
+
+sub-depth : tie.Need-sub-depth
+sub-depth c = omega (arith, c .invocation-count .ensures .0, control-facts _ (first-of c .pre .control) .some-live)
+
+cast-depth : tie.Need-cast-depth
+cast-depth c = omega (arith, c .invocation-count .ensures .0, control-facts _ (first-of c .pre .control) .few-live)
 
 put-frame-entry-requires : tie.Need-put-frame-entry-requires
 put-frame-entry-requires c κs = search needs
@@ -130,7 +150,7 @@ returns : tie.Need-returns
 returns c =
     let p = placed-of (c .before .before .before) in
     let r = read-of p in (
-      written-of r .put-frame-entry .ensures,
+      written-of r .put-frame-entry .ensures ∙ ap (counted _ (start-of (written-of r) .args .t)) (written-of r .before .before .invocation-count .ensures .0),
       copied _ _ _ _ (start-of (written-of r) .pre) (r .whole-account-entry .ensures) (p .before .before .before .before .before .data-length .ensures)
           (p .before .before .before .before .live-bytes .ensures .0) (p .before .before .before .frame-start .ensures .0) (p .before .page-start .ensures) (c .before .before .before .before .before .before .copy .ensures) (c .before .before .clear .ensures),
     )
@@ -139,6 +159,9 @@ pub take-copy-spec : {M : Type 1} → statement M
 take-copy-spec =
     tie.close
     (tie.spec
+    invocation-count-requires
+    sub-depth
+    cast-depth
     put-frame-entry-requires
     whole-account-entry-requires
     data-length-requires

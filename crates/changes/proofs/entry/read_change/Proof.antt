@@ -10,10 +10,11 @@ use Rattle.changes.specs.declared.entry.Change.{Change}
 use Rattle.changes.proofs.entry.read_change.Statement.{statement}
 use Rattle.changes.proofs.entry.read_change.Tie as tie
 
--- the three fields
-fields : (l : List ℕ) (i : ℕ) {at a p n : ℕ} → at ≡ changeAt i → a ≡ wordAt 2 l at → p ≡ wordAt 2 l (at + 2) → n ≡ wordAt 4 l (at + 4)
-    → _≡_ {A = Change} (record { account = record { 0 = a }; page = record { 0 = p }; live = n }) (changeIn l i)
-fields l i e ea ep en = rw (ea, ep, en, e)
+-- the five fields
+fields : (l : List ℕ) (i : ℕ) {at a p n d z : ℕ} → at ≡ changeAt i → a ≡ wordAt 2 l at → p ≡ wordAt 2 l (at + 2) → n ≡ wordAt 4 l (at + 4)
+    → d ≡ wordAt 2 l (at + 8) → z ≡ wordAt 2 l (at + 10)
+    → _≡_ {A = Change} (record { account = record { 0 = a }; page = record { 0 = p }; live = n; depth = d; zero = z }) (changeIn l i)
+fields l i e ea ep en ed ez = rw (ea, ep, en, ed, ez, e)
 
 change-at-requires : tie.Need-change-at-requires
 change-at-requires c κs = search needs
@@ -33,9 +34,23 @@ add-u32-at c = search needs
 u32-at-requires : tie.Need-u32-at-requires
 u32-at-requires c κs = search needs
 
+add-u16-at-2 : tie.Need-add-u16-at-2
+add-u16-at-2 c = search needs
+
+u16-at-requires-3 : tie.Need-u16-at-requires-3
+u16-at-requires-3 c κs = search needs
+
+add-u16-at-3 : tie.Need-add-u16-at-3
+add-u16-at-3 c = search needs
+
+u16-at-requires-4 : tie.Need-u16-at-requires-4
+u16-at-requires-4 c κs = search needs
+
 returns : tie.Need-returns
 returns c =
-    fields _ _ (c .before .before .before .change-at .ensures) (c .before .before .u16-at .ensures) (c .before .u16-at2 .ensures) (c .u32-at .ensures .0)
+    let d = c .before .before in
+    fields _ _ (d .before .before .before .change-at .ensures) (d .before .before .u16-at .ensures) (d .before .u16-at2 .ensures) (d .u32-at .ensures .0)
+    (c .before .u16-at3 .ensures) (c .u16-at4 .ensures)
 
 pub read-change-spec : {M : Type 1} → statement M
 read-change-spec =
@@ -47,4 +62,8 @@ read-change-spec =
     u16-at-requires-2
     add-u32-at
     u32-at-requires
+    add-u16-at-2
+    u16-at-requires-3
+    add-u16-at-3
+    u16-at-requires-4
     returns)

@@ -19,7 +19,7 @@ use Rattle.pages.specs.Pages.{liveOf, live}
 use Rattle.pages.proofs.PageBytes.{live-most}
 use Rattle.changes.specs.Keys.{keyAccount, keyPage}
 use Rattle.changes.specs.Entry.{changeBytes}
-use Rattle.changes.specs.Copies.{codeKey, codeFrame, codeEntry, codePage, ChangeFits}
+use Rattle.changes.specs.Copies.{codeKey, codeFrame, codeDepth, codeEntry, codePage, ChangeFits}
 use Rattle.changes.proofs.Written.{padded-is}
 use Rattle.changes.proofs.list.write_change.Statement.{statement}
 use Rattle.changes.proofs.list.write_change.Tie as tie
@@ -42,7 +42,7 @@ module _ (s p : List ℕ) (x : ℕ) {e : AccountEntry} {z l : ℕ} (ee : e ≡ e
 
   -- the three writes
   written : (out : List ℕ) (j n : ℕ) {o₁ o₂ o₃ : List ℕ} {at f : ℕ} → at ≡ pagesAt n → f ≡ pageSize * codeFrame x
-      → o₁ ≡ splice out (changeAt j) (changeBytes (record { account = keyAccount (codeKey x); page = keyPage (codeKey x); live = l }))
+      → o₁ ≡ splice out (changeAt j) (changeBytes (record { account = keyAccount (codeKey x); page = keyPage (codeKey x); live = l; depth = codeDepth x; zero = 0 }))
       → o₂ ≡ splice o₁ (at + pageSize * j) (bytesAt l p f) → o₃ ≡ splice o₂ (at + pageSize * j + l) (zeros (pageSize - l))
       → o₃ ≡ splice (splice out (changeAt j) (codeEntry s x)) (pagesAt n + pageSize * j) (codePage s p x)
   written out j n ea ef e₁ e₂ e₃ = e₃ ∙ rw (e₂, ef, ea, page _ (pagesAt n + pageSize * j), e₁, count)
@@ -55,14 +55,17 @@ entry-of c = c .before .before .before .before .before .before .before .before .
 abbrev live-of : tie.After-clear → tie.After-live-bytes
 live-of c = entry-of c .before .before
 
-cast-t15 : tie.Need-cast-t15
-cast-t15 c = let h = small _ _ _ (c .before .before .before .pre .0) in omega arith
+cast-t16 : tie.Need-cast-t16
+cast-t16 c = let h = small _ _ _ (c .before .before .before .pre .0) in omega arith
 
-cast-t15-2 : tie.Need-cast-t15-2
-cast-t15-2 c = search needs
+cast-t16-2 : tie.Need-cast-t16-2
+cast-t16-2 c = search needs
 
-cast-t15-3 : tie.Need-cast-t15-3
-cast-t15-3 c = search needs
+cast-t16-3 : tie.Need-cast-t16-3
+cast-t16-3 c = search needs
+
+cast-depth : tie.Need-cast-depth
+cast-depth c = search needs
 
 whole-account-entry-requires : tie.Need-whole-account-entry-requires
 whole-account-entry-requires c κs =
@@ -117,9 +120,10 @@ pub write-change-spec : {M : Type 1} → statement M
 write-change-spec =
     tie.close
     (tie.spec
-    cast-t15
-    cast-t15-2
-    cast-t15-3
+    cast-t16
+    cast-t16-2
+    cast-t16-3
+    cast-depth
     whole-account-entry-requires
     data-length-requires
     live-bytes-requires

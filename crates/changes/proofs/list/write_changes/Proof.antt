@@ -13,7 +13,7 @@ use Rattle.words.specs.Words.{splice}
 use Rattle.words.proofs.Splice.{length-splice}
 use Rattle.changes.specs.Entry.{changeOf}
 use Rattle.changes.specs.List.{joined}
-use Rattle.changes.specs.Copies.{codeKey, codeEntry, codePage}
+use Rattle.changes.specs.Copies.{codeKey, codeDepth, codeEntry, codePage}
 use Rattle.changes.proofs.Written.{rows-turn, length-change, length-padded}
 use Rattle.changes.proofs.list.write_changes.Statement.{statement}
 use Rattle.changes.proofs.list.write_changes.Tie as tie
@@ -46,7 +46,7 @@ module _ (s p order : List ℕ) (n : ℕ) (out₀ out : List ℕ) (j : ℕ) (g :
       let a : changeAt (j + 1) ≡ changeAt j + changeSize = omega arith in
       let b : pagesAt n + pageSize * (j + 1) ≡ pagesAt n + pageSize * j + pageSize = omega arith in
       let r =
-      rows-turn (codeEntry s) (codePage s p) changeSize pageSize (λ k. length-change (changeOf s (codeKey k))) (λ k. length-padded _ _) out (changeAt j) (pagesAt n + pageSize * j) x (drop (suc j) xs)
+      rows-turn (codeEntry s) (codePage s p) changeSize pageSize (λ k. length-change (changeOf s (λ _. codeDepth k) (codeKey k))) (λ k. length-padded _ _) out (changeAt j) (pagesAt n + pageSize * j) x (drop (suc j) xs)
       (omega (arith, length-drop (suc j) xs)) in
       record {
         done = omega arith;

@@ -20,7 +20,7 @@ entry-is : (c : List ℕ) (i u a p z : ℕ) → u ≡ frameField 1 0 c i → a �
       tag = getD c (frameEntryAt i + 1) 0;
       account = record { 0 = a };
       page = record { 0 = p };
-      zero = z;
+      depth = z;
     }
     (frameEntryOf c i)
 entry-is c i u a p z f₀ f g h =

@@ -14,17 +14,17 @@ use Rattle.frames.proofs.table.put_frame_entry.Tie as tie
 
 -- the fields' bytes are those of one number
 one-word : (e : FrameEntry) → e .usage < 256 → e .tag < 256 → e .account .0 < 65536 → e .page .0 < 65536
-    → wordBytes 8 (e .usage + 256 * e .tag + 65536 * e .account .0 + 4294967296 * (e .page .0 + 65536 * e .zero)) ≡ frameEntryBytes e
+    → wordBytes 8 (e .usage + 256 * e .tag + 65536 * e .account .0 + 4294967296 * (e .page .0 + 65536 * e .depth)) ≡ frameEntryBytes e
 unfolding frameEntryBytes
 one-word e u t a p =
-    let n : ℕ = e .page .0 + 65536 * e .zero in
+    let n : ℕ = e .page .0 + 65536 * e .depth in
     let v : e .usage + 256 * e .tag + 65536 * e .account .0 + 4294967296 * n ≡ e .usage + 256 * (e .tag + 256 * (e .account .0 + 65536 * n)) = omega arith in
     rw (
       v,
       wordBytes-append 1 7 (e .usage) (e .tag + 256 * (e .account .0 + 65536 * n)) u,
       wordBytes-append 1 6 (e .tag) (e .account .0 + 65536 * n) t,
       wordBytes-append 2 4 (e .account .0) n a,
-      wordBytes-append 2 2 (e .page .0) (e .zero) p,
+      wordBytes-append 2 2 (e .page .0) (e .depth) p,
     )
 
 -- that number, written at the entry's place

@@ -41,7 +41,7 @@ returns : tie.Need-returns
 returns c =
     let s = start-of (entry-of c) .args in (
       entry-of c .put-frame-entry .ensures
-          ∙ ap (λ (u : ℕ). putFrameEntry (s .c .now) (s .f .0) (record { usage = u; tag = s .depth; account = record { 0 = 0 }; page = s .page; zero = 0 }))
+          ∙ ap (λ (u : ℕ). putFrameEntry (s .c .now) (s .f .0) (record { usage = u; tag = s .depth; account = record { 0 = 0 }; page = s .page; depth = 0 }))
           (entry-of c .before .usage-of .ensures),
       bytes-of c .clear .ensures ∙ ap (λ (at : ℕ). splice (s .pool .now) at (zeros pageSize)) (bytes-of c .before .frame-start .ensures .0),
     )
