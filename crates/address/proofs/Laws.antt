@@ -1,9 +1,6 @@
 -- Demand 2: "Addresses split into fields and join back without loss." One test decides each arm, and the rest is arithmetic on the fields.
 -- Assumes nothing.
-use Prim.Native.Nat.{ℕ, ◌≤◌, ◌<◌, ◌/◌, ◌%◌, ◌^◌}
-use mathlib.Core.Path.{◌≡◌, ◌∙◌}
-use native.Mathlib.Omega.{arith}
-use borrow.Author.Tests.{lt-ltb, le-ltb}
+use Rattle.std.proofs.Common.{ℕ, ◌≤◌, ◌<◌, ◌/◌, ◌%◌, ◌^◌, ◌≡◌, ◌∙◌, arith, lt-ltb, le-ltb}
 use Rattle.layout.specs.Address.{offsets, addresses}
 use Rattle.address.specs.Address.{type_of, index_of, offset_of, joined, with_offset, join_of, split_of}
 

@@ -1,4 +1,7 @@
 // The 48-bit address: type, index and offset, as a small value that can be asked for its fields.
+
+#![tactic(auto)]
+
 ghost use Rattle.std.specs.Prelude.{◌≡◌};
 ghost use Rattle.address.specs.Address.{type_of, index_of, offset_of, with_offset, join_of, split_of};
 
@@ -6,18 +9,18 @@ use layout::address::{ADDRESSES, OFFSETS};
 use refusal::{DONE, Refusal};
 
 // An address: of the 48 bits, 47..40 are the segment's type, 39..24 its index, 23..0 the offset in it.
-#[derive(Drop)]
+#[derive(Clone, Copy)]
 pub struct Address(pub u64);
 
 // What joining gives: the address and 0, or the address 0 and the number of the refusal.
-#[derive(Drop)]
+#[derive(Clone, Copy)]
 pub struct Joined {
     pub address: Address,
     pub number: u8,
 }
 
 // What splitting gives: the fields and 0, or zeros and the number of the refusal.
-#[derive(Drop)]
+#[derive(Clone, Copy)]
 pub struct Fields {
     pub segment_type: u8,
     pub index: u16,

@@ -1,10 +1,6 @@
 -- The laws of a test that every number below a bound passes, each by the definition's recursion. Assumes nothing.
-use Prim.Native.Nat.{ℕ, zero, suc, ◌+◌, ◌<◌}
-use mathlib.Core.Path.{◌≡◌, refl}
-use mathlib.Core.Bool.{Bool, true, false}
-use native.Mathlib.Decide.{ℕ_discrete}
-use native.Mathlib.Numerals.{add-one}
-use native.Mathlib.Omega.{arith}
+use Rattle.std.proofs.Common.{ℕ, zero, suc, ◌+◌, ◌<◌, ◌≡◌, refl, Bool, true, false, add-one, arith}
+use Rattle.std.proofs.Math.Decide.{ℕ_discrete}
 use Rattle.choice.specs.Search.{every}
 use Rattle.choice.proofs.Tests.{by_test, both_true, both_intro}
 

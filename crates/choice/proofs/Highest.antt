@@ -1,11 +1,7 @@
 -- The laws of the highest index at which a test passes. It is the lowest of the test in the other order, so each follows from a law of the lowest
 -- by one law of that order. Assumes nothing.
-use Prim.Native.Nat.{ℕ, suc, ◌-◌, ◌≤◌, ◌<◌}
-use mathlib.Core.Path.{◌≡◌, sym, ap, ◌∙◌}
-use mathlib.Core.Bool.{Bool, true, false}
-use native.Mathlib.Decide.{dec_lt}
-use native.Mathlib.Omega.{arith}
-use borrow.Author.Tests.{lt-ltb, le-ltb}
+use Rattle.std.proofs.Common.{ℕ, suc, ◌-◌, ◌≤◌, ◌<◌, ◌≡◌, sym, ap, ◌∙◌, Bool, true, false, arith, lt-ltb, le-ltb}
+use Rattle.std.proofs.Math.Decide.{dec_lt}
 use Rattle.choice.specs.Search.{lowest, from_top, below, highest}
 use Rattle.choice.proofs.Tests.{differ}
 use Rattle.choice.proofs.Lowest.{lowest-le, lowest_hits, lowest_misses, lowest_none, lowest_ext}

@@ -1,10 +1,7 @@
 -- The laws of the lowest index at which a test passes: by the definition's recursion it passes there and fails below, and
 -- whatever does both is the lowest. Assumes nothing.
-use Prim.Native.Nat.{ℕ, zero, suc, ◌+◌, ◌-◌, ◌≤◌, ◌<◌}
-use mathlib.Core.Path.{◌≡◌, sym, ◌∙◌}
-use mathlib.Core.Bool.{Bool, true, false}
-use native.Mathlib.Decide.{dec_lt}
-use native.Mathlib.Omega.{arith}
+use Rattle.std.proofs.Common.{ℕ, zero, suc, ◌+◌, ◌-◌, ◌≤◌, ◌<◌, ◌≡◌, sym, ◌∙◌, Bool, true, false, arith}
+use Rattle.std.proofs.Math.Decide.{dec_lt}
 use Rattle.choice.specs.Search.{seek, lowest}
 use Rattle.choice.proofs.Tests.{by_test, differ}
 

@@ -1,12 +1,7 @@
 -- Two tests count the same where what passes one is paired off with what passes the other; two tests that never both pass add up.
 -- Assumes nothing.
-use Prim.Native.Nat.{ℕ, zero, suc, ◌+◌, ◌<◌}
-use mathlib.Core.Path.{◌≡◌, refl, sym, ap, ◌∙◌}
-use mathlib.Core.Bool.{Bool, true, false}
-use native.Mathlib.Decide.{ℕ_discrete}
-use native.Mathlib.Omega.{arith}
-use lib.Dec.{ltb}
-use borrow.Author.Tests.{ltb-true, lt-ltb}
+use Rattle.std.proofs.Common.{ℕ, zero, suc, ◌+◌, ◌<◌, ◌≡◌, refl, sym, ap, ◌∙◌, Bool, true, false, arith, ltb, ltb-true, lt-ltb}
+use Rattle.std.proofs.Math.Decide.{ℕ_discrete}
 use Rattle.choice.specs.Choice.{both, either}
 use Rattle.choice.specs.Search.{count}
 use Rattle.choice.proofs.Tests.{by_test, differ, both_true}

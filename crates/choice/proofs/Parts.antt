@@ -1,9 +1,6 @@
 -- The laws of a search by parts: what the first part finds is found in all, and where the test fails in it the search goes on behind
 -- it. Assumes nothing.
-use Prim.Native.Nat.{ℕ, zero, suc, ◌+◌, ◌-◌, ◌≤◌, ◌<◌}
-use mathlib.Core.Path.{◌≡◌, refl, sym, ◌∙◌}
-use mathlib.Core.Bool.{Bool, false}
-use native.Mathlib.Omega.{arith}
+use Rattle.std.proofs.Common.{ℕ, zero, suc, ◌+◌, ◌-◌, ◌≤◌, ◌<◌, ◌≡◌, refl, sym, ◌∙◌, Bool, false, arith}
 use Rattle.choice.specs.Search.{seek}
 use Rattle.choice.proofs.Tests.{by_test}
 use Rattle.choice.proofs.Lowest.{seek_misses}

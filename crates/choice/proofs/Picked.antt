@@ -1,13 +1,7 @@
 -- The laws of `picked`, the numbers at which a test passes: tests that agree pick the same, there are as many as pass, and a search finds
 -- one after the other.
 -- Assumes nothing.
-use mathlib.Core.Path.{◌≡◌, refl, sym, ap, ◌∙◌}
-use mathlib.Core.Bool.{Bool, true}
-use mathlib.Core.List.{[], ◌∷◌}
-use Prim.Native.Nat.{ℕ, zero, suc, ◌+◌, ◌-◌, ◌≤◌, ◌<◌}
-use native.Mathlib.Nat.{add-zero}
-use native.Mathlib.Omega.{arith}
-use lib.ListN.{length}
+use Rattle.std.proofs.Common.{◌≡◌, refl, sym, ap, ◌∙◌, Bool, true, [], ◌∷◌, ℕ, zero, suc, ◌+◌, ◌-◌, ◌≤◌, ◌<◌, add-zero, arith, length}
 use Rattle.choice.specs.Choice.{pick}
 use Rattle.choice.specs.Search.{seek, count, picked}
 use Rattle.choice.proofs.Tests.{by_test}

@@ -1,9 +1,5 @@
 -- The laws of choices by a test: a test passes or fails, and in each case the choice computes. Assumes nothing.
-use Prim.Native.Nat.{ℕ}
-use mathlib.Core.Path.{◌≡◌, refl}
-use mathlib.Core.Bool.{Bool, true, false}
-use mathlib.Core.Logic.{◌⊎◌, inl, inr}
-use native.Mathlib.Omega.{arith}
+use Rattle.std.proofs.Common.{ℕ, ◌≡◌, refl, Bool, true, false, ◌⊎◌, inl, inr, arith}
 use Rattle.choice.specs.Choice.{pick, both, either}
 
 -- what holds where a test passes and where it fails, holds

@@ -1,10 +1,5 @@
 -- The tests of the control block and of the three buffers, as facts by name, and back. Assumes nothing.
-use Prim.Native.Nat.{ℕ, ◌≤◌, ◌<◌}
-use mathlib.Core.Path.{◌≡◌, sym, ap, ◌∙◌}
-use mathlib.Core.Bool.{Bool, true, false}
-use mathlib.Core.List.{List}
-use lib.ListN.{length}
-use borrow.Author.Tests.{leb-true, eqb-true, ltb-true, le-leb, eq-eqb, lt-ltb}
+use Rattle.std.proofs.Common.{ℕ, ◌≤◌, ◌<◌, ◌≡◌, sym, ap, ◌∙◌, Bool, true, false, List, length, leb-true, eqb-true, ltb-true, le-leb, eq-eqb, lt-ltb}
 use Rattle.layout.specs.Page.{page_limit, pool_length}
 use Rattle.layout.specs.Control.{reserved_at, shadow_at, table_at, frame_limit, live_limit, control_length}
 use Rattle.words.specs.Words.{word_at}

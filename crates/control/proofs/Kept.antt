@@ -1,12 +1,6 @@
 -- What a write to one place of the control block leaves as it was. Each law is over the place, so it serves the header, the shadow records and the
 -- frame table. Assumes nothing.
-use Prim.Native.Nat.{ℕ, ◌+◌, ◌≤◌, ◌<◌}
-use mathlib.Core.Path.{◌≡◌, ◌∙◌}
-use mathlib.Core.Bool.{true}
-use mathlib.Core.Logic.{◌⊎◌, inl, inr, ⊎_elim}
-use mathlib.Core.List.{List}
-use native.Mathlib.Omega.{arith}
-use lib.ListN.{length, get_or}
+use Rattle.std.proofs.Common.{ℕ, ◌+◌, ◌≤◌, ◌<◌, ◌≡◌, ◌∙◌, true, ◌⊎◌, inl, inr, ⊎_elim, List, arith, length, get_or}
 use Rattle.layout.specs.Control.{edition_at, reserved_at, shadow_at, shadow_size, table_at}
 use Rattle.words.specs.Words.{word_at, bytes_at, splice}
 use Rattle.words.proofs.Splice.{length-splice, splice_before, splice_behind}

@@ -1,12 +1,6 @@
 -- `set_invocations` writes the header's second word: the live invocations are the number written, and all else of the control block is as it was.
 -- Assumes nothing.
-use Prim.Native.Nat.{ℕ, ◌≤◌, ◌<◌, ◌^◌}
-use mathlib.Core.Path.{◌≡◌}
-use mathlib.Core.Bool.{true}
-use mathlib.Core.Logic.{inl, inr}
-use mathlib.Core.List.{List}
-use native.Mathlib.Omega.{arith}
-use lib.ListN.{length}
+use Rattle.std.proofs.Common.{ℕ, ◌≤◌, ◌<◌, ◌^◌, ◌≡◌, true, inl, inr, List, arith, length}
 use Rattle.layout.specs.Control.{edition_at, reserved_at, table_at, live_limit}
 use Rattle.words.specs.Words.{word_at, word_bytes, bytes_at}
 use Rattle.words.proofs.Word.{length-word_bytes, word_same}

@@ -1,13 +1,7 @@
 -- The three writes to a shadow record: what record k reads afterwards, and what every write inside one record leaves as it was.
 -- Assumes nothing.
-use Prim.Native.Nat.{ℕ, ◌+◌, ◌≤◌, ◌<◌}
-use mathlib.Core.Path.{◌≡◌, refl, sym, ap, ◌∙◌}
-use mathlib.Core.Logic.{◌≢◌, inl, inr}
-use mathlib.Core.List.{List, ◌++◌, append_assoc}
-use native.Mathlib.Nat.{add-zero}
-use native.Mathlib.Decide.{dec_lt}
-use native.Mathlib.Omega.{arith}
-use lib.ListN.{length}
+use Rattle.std.proofs.Common.{ℕ, ◌+◌, ◌≤◌, ◌<◌, ◌≡◌, refl, sym, ap, ◌∙◌, ◌≢◌, inl, inr, List, ◌++◌, append_assoc, add-zero, arith, length}
+use Rattle.std.proofs.Math.Decide.{dec_lt}
 use Rattle.layout.specs.Control.{edition_at, shadow_at, shadow_size, table_at, registers_size, live_limit}
 use Rattle.words.specs.Words.{word_at, word_bytes, splice, zeros}
 use Rattle.words.proofs.Splice.{splice-append}

@@ -10,14 +10,14 @@ use words::numbers::{u16_at, write};
 use words::runs::{clear, copy};
 
 // One of the two regions of anonymous pages.
-#[derive(Drop)]
+#[derive(Clone, Copy)]
 pub enum Region {
     Stack,
     Heap,
 }
 
 // What a shadow record says of its invocation, but for the registers.
-#[derive(Drop)]
+#[derive(Clone, Copy)]
 pub struct Invocation {
     pub program: Account,
     pub stack: u16,

@@ -1,9 +1,10 @@
 -- What the functions share: an entry that is free by its use byte, and the turns of a search, whose
 -- invariant is that from entry i on it finds what it finds in all. Assumes nothing.
-use Rattle.std.proofs.Common.{◌≡◌, ℕ, suc, ◌+◌, ◌-◌, ◌<◌, ◌≤◌, Bool, true, false, ◌≢◌, List, sym, ◌∙◌, arith, eq-eqb, ne_eqb}
-use native.Mathlib.Nat.{sub-zero}
-use Rattle.choice.specs.Search.{seek, lowest, from_top}
+use Rattle.std.proofs.Common.{◌≡◌, ℕ, suc, ◌+◌, ◌-◌, ◌<◌, ◌≤◌, Bool, true, false, ◌≢◌, List, refl, sym, ◌∙◌, arith, eq-eqb, ne_eqb}
+use Rattle.std.proofs.Math.Nat.{sub-zero}
+use Rattle.choice.specs.Search.{seek, lowest, from_top, count}
 use Rattle.choice.proofs.Lowest.{seek_hit, seek_miss, seek_end}
+use Rattle.choice.proofs.Counting.{count_hit, count_pass}
 use Rattle.layout.specs.Control.{usage_free}
 use Rattle.frames.specs.Table.{frame_entry_of, is_free}
 use Rattle.frames.specs.declared.claim.End.{End}
@@ -20,6 +21,14 @@ module _ (c : List ℕ) (i usage : ℕ) (e : usage ≡ (frame_entry_of c i).usag
   pub free_fails : usage ≢ usage_free → is_free c i ≡ false
   unfolding is_free
   free_fails h = ne_eqb _ _ (λ d. h (e ∙ d))
+
+-- entry i is free: one more
+pub free_more : (c : List ℕ) (i : ℕ) → (frame_entry_of c i).usage ≡ usage_free → count (is_free c) (i + 1) ≡ count (is_free c) i + 1
+free_more c i h = count_hit (is_free c) i (free_is c i _ refl h)
+
+-- entry i is in use: as many
+pub free_same : (c : List ℕ) (i : ℕ) → (frame_entry_of c i).usage ≢ usage_free → count (is_free c) (i + 1) ≡ count (is_free c) i
+free_same c i h = count_pass (is_free c) i (free_fails c i _ refl h)
 
 -- nothing is looked at yet
 pub search_start : (f : ℕ → Bool) (n : ℕ) → seek f 0 (n - 0) ≡ lowest f n

@@ -1,8 +1,8 @@
 -- The laws of entries whose bits are wanted: a match leaves no difference, and what matches under the masks of the four searches is
 -- what claims or is used so. Assumes nothing.
-use Rattle.std.proofs.Common.{◌≡◌, ℕ, ◌+◌, ◌*◌, ◌/◌, ◌%◌, ◌^◌, ◌<◌, ◌≤◌, Bool, true, false, eqb, List, get_or, sym, refl, ap, ◌∙◌, arith, eq-eqb, ne_eqb, eqb-true}
-use native.Mathlib.Decide.{ℕ_discrete}
-use lib.Bits.{bit_and, bit_or, bit_xor, and_le_l, and_le_r, and_mask, and_block, or_add_and, or_mod, xor_self}
+use Rattle.std.proofs.Common.{◌≡◌, ℕ, ◌+◌, ◌*◌, ◌/◌, ◌%◌, ◌^◌, ◌<◌, ◌≤◌, Bool, true, false, eqb, List, get_or, sym, refl, ap, ◌∙◌, arith, eq-eqb, ne_eqb, eqb-true, bit_and, bit_or, bit_xor}
+use Rattle.std.proofs.Math.Decide.{ℕ_discrete}
+use lib.Bits.{and_le_l, and_le_r, and_mask, and_block, or_add_and, or_mod, xor_self}
 use Rattle.words.specs.Words.{word_at}
 use Rattle.words.proofs.Word.{word_append, word_fits}
 use Rattle.choice.proofs.Tests.{by_test, differ}

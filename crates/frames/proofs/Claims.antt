@@ -1,14 +1,6 @@
 -- The laws of who claims what, and of the frame of a page, before and after a write of an entry. Assumes nothing.
-use mathlib.Core.Path.{◌≡◌, refl, sym, ap, ◌∙◌}
-use mathlib.Core.Bool.{Bool, true, false}
-use mathlib.Core.Logic.{◌≢◌}
-use mathlib.Core.List.{List}
-use Prim.Native.Nat.{ℕ, ◌≤◌, ◌<◌}
-use native.Mathlib.Decide.{ℕ_discrete}
-use native.Mathlib.Omega.{arith}
-use lib.ListN.{length}
-use lib.Dec.{eqb}
-use borrow.Author.Tests.{eqb-true, eq-eqb, lt-ltb, le-ltb}
+use Rattle.std.proofs.Common.{◌≡◌, refl, sym, ap, ◌∙◌, Bool, true, false, ◌≢◌, List, ℕ, ◌≤◌, ◌<◌, arith, length, eqb, eqb-true, eq-eqb, lt-ltb, le-ltb}
+use Rattle.std.proofs.Math.Decide.{ℕ_discrete}
 use Rattle.layout.specs.Control.{usage_copy}
 use Rattle.choice.specs.Search.{lowest}
 use Rattle.choice.proofs.Tests.{both_true}

@@ -1,12 +1,7 @@
 -- The laws of frame entries in bytes: an entry that is written reads back as it was given, and every other entry as it was.
 -- Assumes nothing.
-use mathlib.Core.Path.{◌≡◌, refl, ◌∙◌}
-use mathlib.Core.Logic.{◌≢◌}
-use mathlib.Core.List.{List}
-use Prim.Native.Nat.{ℕ, ◌+◌, ◌≤◌, ◌<◌}
-use native.Mathlib.Decide.{dec_lt}
-use native.Mathlib.Omega.{arith}
-use lib.ListN.{length, get_or}
+use Rattle.std.proofs.Common.{◌≡◌, refl, ◌∙◌, ◌≢◌, List, ℕ, ◌+◌, ◌≤◌, ◌<◌, arith, length, get_or}
+use Rattle.std.proofs.Math.Decide.{dec_lt}
 use Rattle.words.specs.Words.{word_at, word_bytes}
 use Rattle.words.proofs.Splice.{length-splice}
 use Rattle.words.proofs.Word.{word_before, word_behind, word_in, word_fits}

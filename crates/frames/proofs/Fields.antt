@@ -1,9 +1,5 @@
 -- The fields of an entry where they are read: what stands at a field's place is the field. Assumes nothing.
-use Prim.Native.Nat.{ℕ, ◌+◌}
-use mathlib.Core.Path.{◌≡◌}
-use mathlib.Core.List.{List}
-use native.Mathlib.Omega.{arith}
-use lib.ListN.{get_or}
+use Rattle.std.proofs.Common.{ℕ, ◌+◌, ◌≡◌, List, arith, get_or}
 use Rattle.words.specs.Words.{word_at}
 use Rattle.frames.specs.Table.{frame_entry_at, frame_field}
 

@@ -1,12 +1,6 @@
 -- The laws of what a search of the frame table finds: the first index that passes a test, or nothing where none does.
 -- Assumes nothing.
-use mathlib.Core.Path.{◌≡◌, sym, ap}
-use mathlib.Core.Bool.{Bool, true, false}
-use Prim.Native.Nat.{ℕ, ◌<◌}
-use native.Mathlib.Nat.{le_refl}
-use native.Mathlib.Omega.{arith}
-use lib.Dec.{ltb}
-use borrow.Author.Tests.{ltb-true, ltb-false, lt-ltb, le-ltb}
+use Rattle.std.proofs.Common.{◌≡◌, sym, ap, Bool, true, false, ℕ, ◌<◌, le_refl, arith, ltb, ltb-true, ltb-false, lt-ltb, le-ltb}
 use Rattle.choice.specs.Search.{lowest}
 use Rattle.choice.proofs.Tests.{by_test}
 use Rattle.choice.proofs.Lowest.{lowest_hits, lowest_misses, lowest_none, lowest_is}

@@ -1,12 +1,6 @@
 -- The laws of free frames: which is handed out next, and how many there are before and after a write. A count of the entries
 -- that pass a test, whichever, goes down by one where the entry that is written no longer passes. Assumes nothing.
-use mathlib.Core.Path.{◌≡◌, ap, ◌∙◌}
-use mathlib.Core.Bool.{Bool, true, false}
-use mathlib.Core.Logic.{◌≢◌}
-use mathlib.Core.List.{List}
-use Prim.Native.Nat.{ℕ, suc, ◌≤◌, ◌<◌}
-use lib.ListN.{length}
-use borrow.Author.Tests.{ne_eqb}
+use Rattle.std.proofs.Common.{◌≡◌, ap, ◌∙◌, Bool, true, false, ◌≢◌, List, ℕ, suc, ◌≤◌, ◌<◌, length, ne_eqb}
 use Rattle.choice.specs.Search.{lowest, highest, count}
 use Rattle.choice.proofs.Counting.{count_some, count_less}
 use Rattle.choice.proofs.Highest.{highest_hits}

@@ -1,11 +1,7 @@
 -- What changes nothing but the frame table leaves the header and the shadow records as they were: no change, an entry written, and one such change
 -- after another, so any sequence of written entries. Assumes nothing.
-use Prim.Native.Nat.{ℕ, ◌≤◌}
-use mathlib.Core.Path.{◌≡◌, refl, sym, ◌∙◌}
-use mathlib.Core.Logic.{inl}
-use mathlib.Core.List.{List}
-use native.Mathlib.Omega.{arith}
-use lib.ListN.{length, get_or-eq_default}
+use Rattle.std.proofs.Common.{ℕ, ◌≤◌, ◌≡◌, refl, sym, ◌∙◌, inl, List, arith, length}
+use Rattle.std.proofs.Math.ListN.{get_or-eq_default}
 use Rattle.layout.specs.Control.{edition_at, table_at, live_limit}
 use Rattle.words.proofs.Splice.{splice_before}
 use Rattle.choice.proofs.Tests.{by_test}

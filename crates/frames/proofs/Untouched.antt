@@ -1,10 +1,6 @@
 -- What lies below the frame table and what lies in it stand apart: a write of an entry leaves the header and the shadow records,
 -- and a write below the table leaves every entry. Assumes nothing.
-use mathlib.Core.Path.{◌≡◌, ap}
-use mathlib.Core.List.{List}
-use Prim.Native.Nat.{ℕ, ◌+◌, ◌≤◌}
-use native.Mathlib.Omega.{arith}
-use lib.ListN.{length}
+use Rattle.std.proofs.Common.{◌≡◌, ap, List, ℕ, ◌+◌, ◌≤◌, arith, length}
 use Rattle.layout.specs.Control.{table_at, live_limit}
 use Rattle.words.specs.Words.{splice}
 use Rattle.words.proofs.Word.{word_behind}

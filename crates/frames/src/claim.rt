@@ -8,21 +8,21 @@ use pages::{Frame, Page};
 use snapshot::accounts::Account;
 
 // What a frame is asked for: the copy of an account's page, or a page of a region.
-#[derive(Drop)]
+#[derive(Clone, Copy)]
 pub enum Claim {
     Copy(Account, Page),
     Anonymous(Region, Page),
 }
 
 // What a search of the frame table finds.
-#[derive(Drop)]
+#[derive(Clone, Copy)]
 pub enum Found {
     At(Frame),
     Nothing,
 }
 
 // Which free frame is taken: the one nearest to this end of the table.
-#[derive(Drop)]
+#[derive(Clone, Copy)]
 pub enum End {
     Lowest,
     Highest,

@@ -8,7 +8,7 @@ use snapshot::accounts::Account;
 use words::numbers::{u16_at, write};
 
 // A frame entry. The depth is a copy's: that at the store that made it.
-#[derive(Drop)]
+#[derive(Clone, Copy)]
 pub struct FrameEntry {
     pub usage: u8,
     pub tag: u8,

@@ -1,12 +1,8 @@
 -- The bytes of a page: put into one frame or page they leave the others, a page's live bytes are those of the data, and its original
 -- bytes are the data's, then zeros. Assumes nothing.
-use Prim.Native.Nat.{ℕ, ◌+◌, ◌*◌, ◌-◌, ◌≤◌, ◌<◌}
-use mathlib.Core.Path.{◌≡◌, sym, ◌∙◌}
-use mathlib.Core.Logic.{◌≢◌}
-use mathlib.Core.List.{List, [], ◌++◌}
-use native.Mathlib.Decide.{dec_lt}
-use native.Mathlib.Omega.{arith}
-use lib.ListN.{length, get_or, get_or-eq_default}
+use Rattle.std.proofs.Common.{ℕ, ◌+◌, ◌*◌, ◌-◌, ◌≤◌, ◌<◌, ◌≡◌, sym, ◌∙◌, ◌≢◌, List, [], ◌++◌, arith, length, get_or}
+use Rattle.std.proofs.Math.Decide.{dec_lt}
+use Rattle.std.proofs.Math.ListN.{get_or-eq_default}
 use Rattle.layout.specs.Page.{page_size}
 use Rattle.words.specs.Words.{splice, bytes_at, zeros}
 use Rattle.words.proofs.Splice.{splice_before, splice_behind, splice_in}

@@ -1,4 +1,7 @@
 // Pages and frames by their numbers: the page of an offset, where a page and a frame start, which bytes of a page are live.
+
+#![tactic(auto)]
+
 ghost use Rattle.std.specs.Prelude.{◌≡◌, true, ◌^◌, ◌≤◌, ◌<◌};
 ghost use Rattle.layout.specs.Address.{offsets};
 ghost use Rattle.layout.specs.Page.{page_size};
@@ -10,11 +13,11 @@ use snapshot::accounts::Account;
 use snapshot::lookup::{Lookup, look_up};
 
 // A page of an account's data or of a region, by its number: offset / 4,096.
-#[derive(Drop)]
+#[derive(Clone, Copy)]
 pub struct Page(pub u16);
 
 // A frame of the pool, by its number.
-#[derive(Drop)]
+#[derive(Clone, Copy)]
 pub struct Frame(pub u16);
 
 // The page of an offset.

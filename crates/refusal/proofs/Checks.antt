@@ -1,10 +1,6 @@
 -- A check passes or stops. A chain of checks that passes: each of its tests passed. One that stops: at the first test that fails. No refusal
 -- has the number 0. Assumes nothing.
-use mathlib.Core.Path.{◌≡◌, refl}
-use mathlib.Core.Bool.{Bool, true, false}
-use Prim.Native.Nat.{ℕ}
-use lib.Dec.{eqb}
-use native.Mathlib.Omega.{arith}
+use Rattle.std.proofs.Common.{◌≡◌, refl, Bool, true, false, ℕ, eqb, arith}
 use Rattle.choice.proofs.Tests.{differ}
 use Rattle.refusal.specs.Numbers.{number_of, done}
 use Rattle.refusal.specs.Checks.{need, ◌then◌, check_number}

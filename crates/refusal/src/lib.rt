@@ -1,9 +1,12 @@
 // Why a call is refused, the number that it gives back, and how far an access went.
+
+#![tactic(auto)]
+
 ghost use Rattle.std.specs.Prelude.{◌≡◌};
 ghost use Rattle.refusal.specs.Numbers.{number_of, distance_of};
 
 // A case for each meaning that has a number.
-#[derive(Drop)]
+#[derive(Clone, Copy)]
 pub enum Refusal {
     // a buffer, header, account entry or control block is not valid
     Invalid,
@@ -33,7 +36,7 @@ pub enum Refusal {
 }
 
 // What a test finds: go on, or refuse.
-#[derive(Drop)]
+#[derive(Clone, Copy)]
 pub enum Check {
     Pass,
     Stop(Refusal),

@@ -1,11 +1,5 @@
 -- A valid header and a valid entry, as facts by name, and what they say of an account's data. Assumes nothing.
-use Prim.Native.Nat.{ℕ, ◌+◌, ◌*◌, ◌≤◌, ◌<◌}
-use mathlib.Core.Path.{◌≡◌}
-use mathlib.Core.Bool.{true}
-use mathlib.Core.List.{List}
-use native.Mathlib.Omega.{arith}
-use lib.ListN.{length, get_or}
-use borrow.Author.Tests.{leb-true, eqb-true, ltb-true}
+use Rattle.std.proofs.Common.{ℕ, ◌+◌, ◌*◌, ◌≤◌, ◌<◌, ◌≡◌, true, List, arith, length, get_or, leb-true, eqb-true, ltb-true}
 use Rattle.layout.specs.Snapshot.{header_size, entry_size, context_size, account_limit, context_limit, transaction_limit, data_limit, snapshot_limit}
 use Rattle.words.proofs.Run.{length-bytes_at, get_or-bytes_at}
 use Rattle.choice.proofs.Tests.{both_true, by_test}

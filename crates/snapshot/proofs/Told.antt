@@ -1,10 +1,6 @@
 -- What a look-up of an account says: a valid entry is the account's own, the account is below A and its entry is fit; a refusal is the check's.
 -- Assumes nothing.
-use Prim.Native.Nat.{ℕ}
-use mathlib.Core.Path.{◌≡◌, sym, ◌∙◌}
-use mathlib.Core.Bool.{true, false}
-use mathlib.Core.List.{List}
-use native.Mathlib.Omega.{arith}
+use Rattle.std.proofs.Common.{ℕ, ◌≡◌, sym, ◌∙◌, true, false, List, arith}
 use Rattle.refusal.specs.declared.Refusal.{Refusal}
 use Rattle.refusal.specs.declared.Refusal.TheVariants.{Invalid, NoSegment}
 use Rattle.refusal.specs.declared.Check.TheVariants.{Pass, Stop}

@@ -7,11 +7,11 @@ use layout::snapshot::{ACCOUNT_DATA, ACCOUNT_ENTRY, METADATA_AT, SNAPSHOT_HEADER
 use words::numbers::{u16_at, u32_at};
 
 // An account of the snapshot, by its number.
-#[derive(Drop)]
+#[derive(Clone, Copy)]
 pub struct Account(pub u16);
 
 // The fields of an account entry before its metadata.
-#[derive(Drop)]
+#[derive(Clone, Copy)]
 pub struct AccountEntry {
     pub flags: u16,
     pub owner: Account,

@@ -9,7 +9,7 @@ use layout::snapshot::{
 use words::numbers::u32_at;
 
 // The eight words of the header.
-#[derive(Drop)]
+#[derive(Clone, Copy)]
 pub struct Header {
     pub accounts: usize,
     pub contexts: usize,

@@ -8,7 +8,7 @@ use super::header::whole_header;
 use refusal::Refusal;
 
 // The entry of an account that is there and valid, or why there is none.
-#[derive(Drop)]
+#[derive(Clone, Copy)]
 pub enum Lookup {
     Valid(AccountEntry),
     Refused(Refusal),

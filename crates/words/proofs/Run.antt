@@ -1,11 +1,7 @@
 -- The laws of runs of bytes: `bytes_at`, read from a list, and `zeros`. Assumes nothing.
-use mathlib.Core.Path.{◌≡◌, refl, sym, ap, ◌∙◌}
-use mathlib.Core.List.{List, ◌++◌}
-use Prim.Native.Nat.{ℕ, zero, suc, ◌+◌, ◌-◌, ◌≤◌, ◌<◌}
-use native.Mathlib.Nat.{add-zero, add-suc, suc-add, zero-add}
-use native.Mathlib.Omega.{arith}
-use lib.ListN.{get_or, length, get_or-eq_default}
-use lib.Seq.{ext_get_or, set-get_or}
+use Rattle.std.proofs.Common.{◌≡◌, refl, sym, ap, ◌∙◌, List, ◌++◌, ℕ, zero, suc, ◌+◌, ◌≤◌, ◌<◌, add-zero, add-suc, suc-add, zero-add, arith, get_or, length, ext_get_or}
+use Rattle.std.proofs.Math.ListN.{get_or-eq_default}
+use Rattle.std.proofs.Math.Seq.{set-get_or}
 use Rattle.words.specs.Words.{splice, bytes_at, zeros}
 use Rattle.words.proofs.Splice.{length-splice, splice_before, splice_behind, splice_in}
 

@@ -1,11 +1,5 @@
 -- The sizes that a number is read and written in: a law holds at each where it holds at 1, 2, 4 and 8. Assumes nothing.
-use Prim.Native.Nat.{ℕ, ◌≤◌}
-use mathlib.Core.Path.{◌≡◌}
-use mathlib.Core.Bool.{true}
-use mathlib.Core.Logic.{◌⊎◌, ⊎_elim}
-use native.Mathlib.Omega.{arith}
-use borrow.Author.Tests.{eqb-true}
-use lib.Dec.{eqb}
+use Rattle.std.proofs.Common.{ℕ, ◌≤◌, ◌≡◌, true, ⊎_elim, arith, eqb-true, eqb}
 use Rattle.choice.specs.Choice.{either}
 use Rattle.choice.proofs.Tests.{either_true}
 use Rattle.words.specs.Words.{is_size}

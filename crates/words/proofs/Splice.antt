@@ -1,12 +1,6 @@
 -- The laws of `splice`, bytes put into a list at a place. Assumes nothing.
-use mathlib.Core.Path.{◌≡◌, refl, sym, ap, ◌∙◌}
-use mathlib.Core.List.{List, [], ◌∷◌, ◌++◌}
-use Prim.Native.Nat.{ℕ, zero, suc, ◌+◌, ◌≤◌, ◌<◌}
-use native.Mathlib.Nat.{add-zero, add-suc, suc-add}
-use native.Mathlib.Omega.{arith}
-use native.Mathlib.Numerals.{add-one}
-use lib.ListN.{get_or, set, length, take, drop, length-set, drop_of_length-le}
-use lib.Seq.{get_or-set_same, get_or-set_other, get_or-take, length-take-le, drop-cons, set_comm, set-set}
+use Rattle.std.proofs.Common.{◌≡◌, refl, sym, ap, ◌∙◌, List, [], ◌∷◌, ◌++◌, ℕ, zero, suc, ◌+◌, ◌≤◌, ◌<◌, add-zero, add-suc, suc-add, arith, add-one, get_or, set, length, take, drop, length-set, drop_of_length-le, get_or-set_same, get_or-set_other, get_or-take, length-take-le, drop-cons, set-set}
+use Rattle.std.proofs.Math.Seq.{set_comm}
 use Rattle.words.specs.Words.{splice}
 
 -- the length stays

@@ -1,11 +1,7 @@
 -- The laws of numbers in bytes, `word_at` and `word_bytes`, over the width. Assumes nothing.
-use mathlib.Core.Path.{◌≡◌, refl, ap, ◌∙◌}
-use mathlib.Core.List.{List, ◌∷◌, ◌++◌}
-use Prim.Native.Nat.{ℕ, zero, suc, ◌+◌, ◌*◌, ◌/◌, ◌%◌, ◌^◌, ◌≤◌, ◌<◌}
-use native.Mathlib.Nat.{add-zero, add-suc, suc-add, zero-add, pow-succ', pow-zero, mul_assoc}
-use native.Mathlib.Omega.{arith}
-use lib.ListN.{get_or, length, take, get_or-append}
-use lib.Seq.{get_or-append-add}
+use Rattle.std.proofs.Common.{◌≡◌, refl, ap, ◌∙◌, List, ◌∷◌, ◌++◌, ℕ, zero, suc, ◌+◌, ◌*◌, ◌/◌, ◌%◌, ◌^◌, ◌≤◌, ◌<◌, add-zero, add-suc, suc-add, zero-add, mul_assoc, arith, get_or, length, take, get_or-append-add}
+use Rattle.std.proofs.Math.Nat.{pow-succ', pow-zero}
+use Rattle.std.proofs.Math.ListN.{get_or-append}
 use Rattle.words.specs.Words.{word_at, word_bytes, splice, zeros}
 use Rattle.words.proofs.Splice.{splice_before, splice_behind, splice_in}
 use Rattle.words.proofs.Run.{get_or-zeros}

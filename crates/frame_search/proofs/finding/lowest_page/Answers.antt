@@ -1,0 +1,14 @@
+use Rattle.frame_search.proofs.finding.lowest_page.Goals as goal
+use Rattle.std.proofs.Common.{◌∙◌, arith}
+use Rattle.choice.proofs.Parts.{seek_ext}
+use Rattle.frame_search.proofs.Loops.{search_start}
+use Rattle.frame_search.proofs.Matches.{page_matches}
+
+pub returns : goal.returns
+returns c =
+    c.nearest_match.ensures
+    ∙ seek_ext _ _ _ _
+    (λ i.
+    page_matches _ i (λ j. omega (arith, c.type_inv.c j)) c.args.r
+    c.args.p _ c.usage_of.ensures)
+    ∙ search_start _ _
