@@ -1,10 +1,6 @@
 -- What an access does with translation's answer: a refusal is given back and nothing changes, and a place has room for the bytes of the access.
 -- Assumes nothing.
-use Prim.Native.Nat.{ℕ, ◌+◌, ◌≤◌, ◌<◌}
-use mathlib.Core.Path.{◌≡◌, refl, sym, ◌∙◌}
-use mathlib.Core.Bool.{true}
-use mathlib.Core.List.{List}
-use lib.ListN.{length}
+use Rattle.std.proofs.Common.{ℕ, ◌+◌, ◌≤◌, ◌<◌, ◌≡◌, refl, sym, ◌∙◌, true, List, length}
 use Rattle.layout.specs.Page.{page_size}
 use Rattle.words.specs.Words.{is_size, splice}
 use Rattle.words.proofs.Splice.{length-splice}
@@ -50,6 +46,9 @@ length_prepared s p (Take t) = length-splice p _ _
 
 -- bytes put in where a writable page's place is, once it has its frame, are stored at that place
 put_at : (s c p bytes : List ℕ) (q : Place) → Writable s c p q → splice (prepared_pool s p q) (place_in_pool q) bytes ≡ stored_at s p bytes q
+put_at s c p bytes (InSnapshot _) w = elim w [ ]
+put_at s c p bytes (InControl _) w = elim w [ ]
+put_at s c p bytes Zeros w = elim w [ ]
 put_at s c p bytes (InPool at) w = refl
 put_at s c p bytes (Take t) w = refl
 

@@ -1,9 +1,5 @@
 -- A copy's entry fits its bytes. Assumes nothing.
-use Prim.Native.Nat.{ℕ, ◌<◌}
-use mathlib.Core.Path.{◌≡◌}
-use mathlib.Core.Bool.{true}
-use mathlib.Core.List.{List}
-use native.Mathlib.Omega.{arith}
+use Rattle.std.proofs.Common.{ℕ, ◌<◌, ◌≡◌, true, List, arith}
 use Rattle.control.specs.Control.{control_valid}
 use Rattle.control.proofs.Facts.{control_facts}
 use Rattle.frames.proofs.Entries.{EntryRange}

@@ -1,5 +1,5 @@
 -- What translation answers for a fetch, as answers of the fetch. Assumes nothing.
-use mathlib.Core.Path.{ap}
+use Rattle.std.proofs.Common.{ap}
 use Rattle.segments.specs.Kinds.{kind_fetch}
 use Rattle.translate.specs.Place.{number_of_answer}
 use Rattle.translate.specs.Translate.{translate_of}

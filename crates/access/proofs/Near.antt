@@ -1,8 +1,5 @@
 -- What an access answers has a distance below a page's length. Assumes nothing.
-use Prim.Native.Nat.{ℕ, ◌<◌}
-use mathlib.Core.Path.{◌≡◌}
-use mathlib.Core.List.{List}
-use lib.ListN.{length}
+use Rattle.std.proofs.Common.{ℕ, ◌<◌, ◌≡◌, List, length}
 use Rattle.layout.specs.Page.{page_size}
 use Rattle.segments.specs.Kinds.{kind_load, kind_fetch, kind_load_span}
 use Rattle.translate.specs.declared.place.Outcome.{Outcome}

@@ -1,10 +1,6 @@
 -- What an accepted load of account data gives: the bytes of the page's frame, or else the original data's; and the bytes of a copy, which are the
 -- original data's, too. Assumes nothing.
-use Prim.Native.Nat.{ℕ, ◌+◌, ◌*◌, ◌≤◌, ◌<◌}
-use mathlib.Core.Path.{◌≡◌, refl, sym, ◌∙◌}
-use mathlib.Core.List.{List}
-use native.Mathlib.Omega.{arith}
-use lib.ListN.{length, get_or}
+use Rattle.std.proofs.Common.{ℕ, ◌+◌, ◌≤◌, ◌<◌, ◌≡◌, refl, sym, ◌∙◌, List, arith, length, get_or}
 use Rattle.layout.specs.Page.{page_size}
 use Rattle.words.specs.Words.{word_at, bytes_at}
 use Rattle.words.proofs.Splice.{splice_in}

@@ -13,7 +13,7 @@ use words::numbers::read;
 use words::runs::{clear, copy};
 
 // What a load or a fetch gives: a value, 0 where it is refused, and what every access answers.
-#[derive(Drop)]
+#[derive(Clone, Copy)]
 pub struct Value {
     pub value: u64,
     pub outcome: Outcome,

@@ -1,16 +1,7 @@
 -- The laws of a list that is applied to an account's data: the length stays, a page with no entry of this account keeps its bytes, and an
 -- entry's live bytes stand in its page, since keys that ascend name each page once. Assumes nothing.
-use Prim.Native.Nat.{ℕ, zero, suc, ◌+◌, ◌*◌, ◌≤◌, ◌<◌}
-use mathlib.Core.Path.{◌≡◌, refl, sym, ◌∙◌}
-use mathlib.Core.Bool.{true}
-use mathlib.Core.Logic.{◌≢◌}
-use mathlib.Core.List.{List}
-use native.Mathlib.Decide.{dec_lt}
-use native.Mathlib.Nat.{add-zero, le_refl}
-use native.Mathlib.Omega.{arith}
-use lib.ListN.{length, get_or}
-use lib.Dec.{eqb}
-use borrow.Author.Tests.{eqb-true, eq-eqb}
+use Rattle.std.proofs.Common.{ℕ, zero, suc, ◌+◌, ◌*◌, ◌≤◌, ◌<◌, ◌≡◌, refl, sym, ◌∙◌, true, ◌≢◌, List, add-zero, le_refl, arith, length, get_or, eqb, eqb-true, eq-eqb}
+use Rattle.std.proofs.Math.Decide.{dec_lt}
 use Rattle.layout.specs.Page.{page_size}
 use Rattle.layout.specs.List.{pages_at}
 use Rattle.words.specs.Words.{bytes_at}

@@ -1,13 +1,6 @@
 -- The tests of a change list, as facts by name. Assumes nothing.
-use Prim.Native.Nat.{ℕ, suc, ◌+◌, ◌-◌, ◌*◌, ◌^◌, ◌≤◌, ◌<◌}
-use mathlib.Core.Path.{◌≡◌, sym}
-use mathlib.Core.Bool.{true, false}
-use mathlib.Core.List.{List}
-use mathlib.Core.Logic.{⊎_elim}
-use native.Mathlib.Omega.{arith}
-use lib.ListN.{length, get_or}
-use lib.Dec.{eqb}
-use borrow.Author.Tests.{leb-true, ltb-true, eqb-true, eqb-false, ne_eqb, not-true}
+use Rattle.std.proofs.Common.{ℕ, suc, ◌+◌, ◌-◌, ◌*◌, ◌^◌, ◌≤◌, ◌<◌, ◌≡◌, sym, true, false, List, ⊎_elim, arith, length, get_or, eqb, leb-true, ltb-true, eqb-true, ne_eqb}
+use borrow.Author.Tests.{eqb-false, not-true}
 use Rattle.layout.specs.Page.{page_size}
 use Rattle.layout.specs.List.{list_header, change_size, change_at, pages_at, list_total}
 use Rattle.words.specs.Words.{word_at}

@@ -1,4 +1,7 @@
 // Applying a change list to an account's data.
+
+#![tactic(auto)]
+
 ghost use Rattle.std.specs.Prelude.{◌≡◌, true, ◌+◌, ◌^◌, ◌≤◌, ◌<◌, length};
 ghost use Rattle.layout.specs.List.{change_at, change_size};
 ghost use Rattle.choice.specs.Search.{every};

@@ -1,14 +1,8 @@
 -- The change list's answers, from what the code has found out: the first test that fails gives the number and leaves the buffer; where
 -- all pass, the codes' entries and pages are those of the keys in ascending order. Assumes nothing.
-use Prim.Native.Nat.{ℕ, ◌*◌, ◌/◌, ◌≤◌, ◌<◌}
-use mathlib.Core.Path.{◌≡◌, refl, sym, ap, ◌∙◌}
-use mathlib.Core.Bool.{true, false}
-use mathlib.Core.List.{List, ◌++◌, map}
-use native.Mathlib.Omega.{arith}
-use lib.Dec.{leb}
-use lib.ListN.{length, get_or, take, drop, length-append, length-map}
-use lib.Seq.{length-take-le, get_or-take, take_at}
-use borrow.Author.Tests.{le-leb, lt-leb}
+use Rattle.std.proofs.Common.{ℕ, ◌*◌, ◌/◌, ◌≤◌, ◌<◌, ◌≡◌, refl, sym, ap, ◌∙◌, true, false, List, ◌++◌, map, arith, leb, length, get_or, take, drop, length-append, length-take-le, get_or-take, take_at, le-leb}
+use Rattle.std.proofs.Math.ListN.{length-map}
+use borrow.Author.Tests.{lt-leb}
 use Rattle.layout.specs.Control.{frame_limit}
 use Rattle.layout.specs.List.{list_header, change_size, pages_at, list_total}
 use Rattle.words.specs.Words.{splice}

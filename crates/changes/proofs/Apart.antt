@@ -1,14 +1,9 @@
 -- Copies of different pages: no two neighbours among the ascending codes have one key; then each page's frame is that of its code, and
 -- the keys of the codes are the keys of the pages that copies claim. Assumes nothing.
-use Prim.Native.Nat.{ℕ, suc, ◌-◌, ◌≤◌, ◌<◌}
-use mathlib.Core.Path.{◌≡◌, refl, sym, ap, ◌∙◌}
-use mathlib.Core.Bool.{Bool, true, false, not}
-use mathlib.Core.List.{List, map}
-use native.Mathlib.Decide.{dec_lt}
-use native.Mathlib.Omega.{arith}
-use lib.Dec.{eqb}
-use lib.ListN.{length, get_or, length-map}
-use borrow.Author.Tests.{eqb-true, eqb-false, eq-eqb, ne_eqb, not-true, not-false}
+use Rattle.std.proofs.Common.{ℕ, suc, ◌-◌, ◌≤◌, ◌<◌, ◌≡◌, refl, sym, ap, ◌∙◌, Bool, true, false, not, List, map, arith, eqb, length, get_or, eqb-true, eq-eqb, ne_eqb}
+use Rattle.std.proofs.Math.Decide.{dec_lt}
+use Rattle.std.proofs.Math.ListN.{length-map}
+use borrow.Author.Tests.{eqb-false, not-true, not-false}
 use Rattle.layout.specs.Control.{frame_limit}
 use Rattle.choice.specs.Ascending.{Ascending}
 use Rattle.choice.proofs.Ascending.{Member, get_or_images, member_image, image_member, ascending_steps, ascending_once, ascending_same, picked-passes, passes-picked, picked_ascending}

@@ -1,12 +1,7 @@
 -- The two forms of the test that every copy can be listed: the definition's, entry by entry, and the code's, which looks for pages
 -- claimed twice among the ascending codes. Assumes nothing.
-use Prim.Native.Nat.{ℕ, ◌≤◌, ◌<◌}
-use mathlib.Core.Path.{◌≡◌}
-use mathlib.Core.Bool.{Bool, true, false, not}
-use mathlib.Core.List.{List}
-use native.Mathlib.Omega.{arith}
-use lib.ListN.{get_or}
-use borrow.Author.Tests.{eqb-true, eq-eqb, not-true, not-false}
+use Rattle.std.proofs.Common.{ℕ, ◌≤◌, ◌<◌, ◌≡◌, Bool, true, false, not, List, arith, get_or, eqb-true, eq-eqb}
+use borrow.Author.Tests.{not-true, not-false}
 use Rattle.layout.specs.Control.{frame_limit}
 use Rattle.choice.specs.Search.{every}
 use Rattle.choice.proofs.Every.{every_at, every_all}

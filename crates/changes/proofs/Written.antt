@@ -1,11 +1,6 @@
 -- Pieces one after the other, and how they are written: the list's parts put in one by one are the whole list put in at the start.
 -- Assumes nothing.
-use Prim.Native.Nat.{ℕ, suc, ◌+◌, ◌*◌, ◌-◌, ◌≤◌}
-use mathlib.Core.Path.{◌≡◌, refl, ap, ◌∙◌}
-use mathlib.Core.List.{List, [], ◌∷◌, ◌++◌, map}
-use native.Mathlib.Nat.{add-zero, mul-zero, mul-suc}
-use native.Mathlib.Omega.{arith}
-use lib.ListN.{length, length-append}
+use Rattle.std.proofs.Common.{ℕ, suc, ◌+◌, ◌*◌, ◌-◌, ◌≤◌, ◌≡◌, refl, ap, ◌∙◌, List, [], ◌∷◌, ◌++◌, map, add-zero, mul-zero, mul-suc, arith, length, length-append}
 use Rattle.layout.specs.Page.{page_size}
 use Rattle.layout.specs.List.{list_header, change_size, pages_at}
 use Rattle.words.specs.Words.{word_bytes, splice, bytes_at, zeros}

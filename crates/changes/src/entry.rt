@@ -10,7 +10,7 @@ use snapshot::accounts::Account;
 use words::numbers::{u16_at, u32_at, write};
 
 // An entry.
-#[derive(Drop)]
+#[derive(Clone, Copy)]
 pub struct Change {
     pub account: Account,
     pub page: Page,

@@ -25,7 +25,7 @@ use words::runs::{clear, copy};
 const FEW: usize = 64;
 
 // What the list comes to with the room that is lent.
-#[derive(Drop)]
+#[derive(Clone, Copy)]
 enum Attempt {
     Number(u8),
     // there are more copies than room

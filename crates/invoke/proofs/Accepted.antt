@@ -1,11 +1,6 @@
 -- The facts by name behind a program that can be run, and behind a begin, a call and a return that are accepted: each test of the chain passed.
 -- Assumes nothing.
-use Prim.Native.Nat.{ℕ, ◌≤◌, ◌<◌}
-use mathlib.Core.Path.{◌≡◌}
-use mathlib.Core.Bool.{true}
-use mathlib.Core.List.{List}
-use native.Mathlib.Omega.{arith}
-use borrow.Author.Tests.{leb-true, eqb-true, ltb-true}
+use Rattle.std.proofs.Common.{ℕ, ◌≤◌, ◌<◌, ◌≡◌, true, List, arith, leb-true, eqb-true, ltb-true}
 use Rattle.layout.specs.Page.{pool_length}
 use Rattle.layout.specs.Control.{table_at, frame_limit, live_limit, registers_size, control_length}
 use Rattle.choice.proofs.Tests.{both_true}

@@ -1,13 +1,7 @@
 -- The stack of a program that begins: a fresh control block has no pages and every frame free, so resizing its stack to no page leaves all as
 -- it is, and to one page takes frame 0. Assumes nothing.
-use Prim.Native.Nat.{ℕ, ◌-◌, ◌≤◌}
-use mathlib.Core.Path.{◌≡◌, ap, ◌∙◌}
-use mathlib.Core.Bool.{true}
-use mathlib.Core.List.{List}
-use native.Mathlib.Decide.{ℕ_discrete}
-use native.Mathlib.Omega.{arith}
-use lib.ListN.{length}
-use borrow.Author.Tests.{le-leb}
+use Rattle.std.proofs.Common.{ℕ, ◌-◌, ◌≤◌, ◌≡◌, ap, ◌∙◌, true, List, arith, length, le-leb}
+use Rattle.std.proofs.Math.Decide.{ℕ_discrete}
 use Rattle.layout.specs.Page.{page_size}
 use Rattle.words.specs.Words.{splice, zeros}
 use Rattle.choice.proofs.Counting.{count_hit, count_grows}

@@ -1,12 +1,6 @@
 -- One invocation more after a call, one less after a return: each writes one record and the number of live invocations. Before that a return frees
 -- frames and hands its heap over. Assumes nothing.
-use Prim.Native.Nat.{ℕ, ◌+◌, ◌-◌, ◌≤◌, ◌<◌}
-use mathlib.Core.Path.{◌≡◌, ap, ◌∙◌}
-use mathlib.Core.Bool.{true}
-use mathlib.Core.Logic.{◌≢◌}
-use mathlib.Core.List.{List}
-use native.Mathlib.Omega.{arith}
-use lib.ListN.{length}
+use Rattle.std.proofs.Common.{ℕ, ◌+◌, ◌-◌, ◌≤◌, ◌<◌, ◌≡◌, ap, ◌∙◌, true, ◌≢◌, List, arith, length}
 use Rattle.layout.specs.Control.{live_limit, registers_size}
 use Rattle.words.specs.Words.{word_bytes}
 use Rattle.words.proofs.Word.{length-word_bytes}

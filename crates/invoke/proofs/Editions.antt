@@ -1,11 +1,7 @@
 -- A begin takes the edition that is asked for. A call and a return keep the one that is there: all that they write is the number of live
 -- invocations, records and entries of the frame table. Assumes nothing.
-use Prim.Native.Nat.{ℕ, ◌+◌, ◌-◌}
-use mathlib.Core.Path.{◌≡◌, refl, ap, ◌∙◌}
-use mathlib.Core.List.{List}
-use native.Mathlib.Decide.{ℕ_discrete}
-use native.Mathlib.Omega.{arith}
-use lib.ListN.{length}
+use Rattle.std.proofs.Common.{ℕ, ◌+◌, ◌-◌, ◌≡◌, refl, ap, ◌∙◌, List, arith, length}
+use Rattle.std.proofs.Math.Decide.{ℕ_discrete}
 use Rattle.layout.specs.Control.{registers_size}
 use Rattle.refusal.specs.Checks.{or_keep}
 use Rattle.refusal.specs.declared.Check.{Check}

@@ -1,16 +1,7 @@
 -- The frames that leave with an invocation are freed: what each entry reads afterwards, and that nothing but the frame table changes. By the step at
 -- one entry, then by the recursion over the entries done. Assumes nothing.
-use Prim.Native.Nat.{ℕ, zero, suc, ◌+◌, ◌≤◌, ◌<◌}
-use mathlib.Core.Path.{◌≡◌, refl, sym, ap, ◌∙◌}
-use mathlib.Core.Bool.{true, false}
-use mathlib.Core.Logic.{◌≢◌}
-use mathlib.Core.List.{List}
-use native.Mathlib.Decide.{dec_lt, ℕ_discrete}
-use native.Mathlib.Numerals.{add-one}
-use native.Mathlib.Omega.{arith}
-use lib.ListN.{length}
-use lib.Dec.{leb, eqb}
-use borrow.Author.Tests.{eq-eqb, ne_eqb}
+use Rattle.std.proofs.Common.{ℕ, zero, suc, ◌+◌, ◌≤◌, ◌<◌, ◌≡◌, refl, sym, ap, ◌∙◌, true, false, ◌≢◌, List, add-one, arith, length, leb, eqb, eq-eqb, ne_eqb}
+use Rattle.std.proofs.Math.Decide.{dec_lt, ℕ_discrete}
 use Rattle.choice.specs.Choice.{pick}
 use Rattle.choice.proofs.Tests.{by_test, differ, fails}
 use Rattle.snapshot.specs.declared.accounts.Account.{Account}

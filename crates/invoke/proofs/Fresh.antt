@@ -1,15 +1,6 @@
 -- What a fresh control block reads: the header with one invocation and the edition, its record with the program and no pages, and zeros elsewhere.
 -- Assumes nothing.
-use Prim.Native.Nat.{ℕ, ◌+◌, ◌≤◌, ◌<◌, ◌^◌}
-use mathlib.Core.Path.{◌≡◌, refl, sym, ◌∙◌, ap}
-use mathlib.Core.Bool.{true, false}
-use mathlib.Core.Logic.{inl, inr, ⊎_elim}
-use mathlib.Core.List.{List}
-use native.Mathlib.Nat.{zero-add}
-use native.Mathlib.Omega.{arith}
-use lib.ListN.{length}
-use lib.Dec.{eqb}
-use borrow.Author.Tests.{eqb-true}
+use Rattle.std.proofs.Common.{ℕ, ◌+◌, ◌≤◌, ◌<◌, ◌^◌, ◌≡◌, refl, sym, ◌∙◌, ap, true, false, inl, inr, ⊎_elim, List, zero-add, arith, length, eqb, eqb-true}
 use Rattle.layout.specs.Control.{edition_at, reserved_at, older, newer, shadow_at, stack_at, heap_at, table_at}
 use Rattle.words.specs.Words.{word_at, word_bytes, splice, zeros}
 use Rattle.words.proofs.Splice.{length-splice}

@@ -17,7 +17,7 @@ use words::numbers::write;
 use words::runs::clear;
 
 // What a begin is given: the account to run, the edition that it was built for, and how many pages its stack has.
-#[derive(Drop)]
+#[derive(Clone, Copy)]
 pub struct Start {
     pub program: Account,
     pub edition: u32,

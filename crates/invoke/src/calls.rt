@@ -36,6 +36,7 @@ fn call_check(s: &[u8], c: &[u8], pool: &[u8], program: Account, size: usize) ->
 }
 
 // Calls a program: the new record holds it, the caller's two sizes and the registers.
+#[tactic(auto, using(crate::proofs::Accepted::call_facts))]
 pub fn call(s: &[u8], c: &mut [u8], pool: &[u8], program: Account, registers: &[u8]) -> u8
     ensures value { result ≡ call_number s.now c.old pool.now program registers.now }
     ensures c_after { c.new ≡ call_control s.now c.old pool.now program registers.now }
@@ -102,6 +103,7 @@ fn free_within(c: &mut [u8], from: usize, to: usize, depth: usize)
 }
 
 // Frees every stack frame whose tag is at or above the depth, in one pass. A group without a stack or heap frame is passed over.
+#[tactic(auto, using(control::proofs::Facts::control_facts))]
 fn free_leaving(c: &mut [u8], depth: usize)
     requires { control_valid c.old ≡ true }
     ensures { c.new ≡ freed_below depth c.old (frames c.old) }
@@ -118,6 +120,7 @@ fn free_leaving(c: &mut [u8], depth: usize)
 }
 
 // Returns from the current invocation, handing its registers back, and its heap over to its caller.
+#[tactic(auto, using(crate::proofs::Accepted::return_facts))]
 pub fn return_from(s: &[u8], c: &mut [u8], pool: &[u8], registers: &mut [u8]) -> u8
     ensures value { result ≡ return_number s.now c.old pool.now registers.old }
     ensures c_after { c.new ≡ return_control s.now c.old pool.now registers.old }

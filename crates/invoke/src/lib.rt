@@ -1,4 +1,7 @@
 // Invocations: begin, call, return.
+
+#![tactic(auto)]
+
 pub mod begin;
 pub mod calls;
 pub mod program;

@@ -1,15 +1,12 @@
 -- What a span store was given is read back. Assumes nothing.
-use Prim.Native.Nat.{ℕ, ◌+◌, ◌≤◌}
-use mathlib.Core.Path.{◌≡◌, refl, ◌∙◌}
-use mathlib.Core.List.{List}
-use lib.ListN.{length}
+use Rattle.std.proofs.Common.{ℕ, ◌+◌, ◌≤◌, ◌≡◌, refl, ◌∙◌, List, length}
 use Rattle.words.specs.Words.{bytes_at}
 use Rattle.words.proofs.Splice.{length-splice}
 use Rattle.words.proofs.Run.{run_back}
 use Rattle.segments.specs.Kinds.{kind_store_span}
 use Rattle.translate.specs.Translate.{translate_of}
 use Rattle.translate.specs.declared.place.Place.{Place}
-use Rattle.translate.specs.declared.place.Place.TheVariants.{InPool, Take}
+use Rattle.translate.specs.declared.place.Place.TheVariants.{InSnapshot, InControl, Zeros, InPool, Take}
 use Rattle.translate.specs.declared.place.Translation.TheVariants.{Allowed}
 use Rattle.translate.proofs.Answered.{allowed}
 use Rattle.access.specs.Loads.{load_span_outcome, load_span_out}
@@ -22,12 +19,18 @@ use Rattle.records.proofs.Reread.{reread}
 
 -- it is as long as before
 length-stored : (s c p bytes : List ℕ) (q : Place) → Writable s c p q → length (stored_at s p bytes q) ≡ length p
+length-stored s c p bytes (InSnapshot _) w = elim w [ ]
+length-stored s c p bytes (InControl _) w = elim w [ ]
+length-stored s c p bytes Zeros w = elim w [ ]
 length-stored s c p bytes (InPool at) w = length-splice p at bytes
 length-stored s c p bytes (Take t) w = length-splice (taken_pool s p t) t.at bytes ∙ length-splice p _ _
 
 -- where the bytes went they stand
 stored_back : (s c p bytes : List ℕ) (q : Place) → Writable s c p q → place_in_pool q + length bytes ≤ length (prepared_pool s p q)
     → bytes_at (length bytes) (stored_at s p bytes q) (place_in_pool q) ≡ bytes
+stored_back s c p bytes (InSnapshot _) w h = elim w [ ]
+stored_back s c p bytes (InControl _) w h = elim w [ ]
+stored_back s c p bytes Zeros w h = elim w [ ]
 stored_back s c p bytes (InPool at) w h = run_back p at bytes h
 stored_back s c p bytes (Take t) w h = run_back (taken_pool s p t) t.at bytes h
 

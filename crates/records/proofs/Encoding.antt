@@ -1,11 +1,7 @@
 -- Bytes of a record and record of bytes, once over the list of widths: a record has its layout's size, the bytes of fields in range spell
 -- those fields, and fields written one after another are the record's bytes. Assumes nothing.
-use Prim.Native.Nat.{ℕ, ◌+◌}
-use mathlib.Core.Path.{◌≡◌, refl, ap, sym, ◌∙◌}
-use mathlib.Core.List.{List, [], ◌∷◌, ◌++◌, append-nil, append_assoc}
-use native.Mathlib.Omega.{arith}
-use native.Mathlib.Nat.{add_assoc}
-use lib.ListN.{length, replicate, length-append, length-replicate}
+use Rattle.std.proofs.Common.{ℕ, ◌+◌, ◌≡◌, refl, ap, sym, ◌∙◌, List, [], ◌∷◌, ◌++◌, append-nil, append_assoc, arith, add_assoc, length, replicate, length-append}
+use Rattle.std.proofs.Math.ListN.{length-replicate}
 use Rattle.words.specs.Words.{word_at, word_bytes, splice}
 use Rattle.words.proofs.Word.{word_left, word_right, word_bytes_lem, length-word_bytes}
 use Rattle.words.proofs.Splice.{splice-append}

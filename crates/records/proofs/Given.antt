@@ -1,13 +1,6 @@
 -- What a read gives is what its one span load gives: of a layout without a discriminant as it is, of one with a discriminant by that.
 -- Assumes nothing.
-use Prim.Native.Nat.{ℕ, zero, suc, ◌≤◌, ◌<◌}
-use mathlib.Core.Path.{◌≡◌, refl, ap}
-use mathlib.Core.Bool.{true, false}
-use mathlib.Core.List.{List, [], ◌∷◌}
-use native.Mathlib.Omega.{arith}
-use lib.Dec.{ltb}
-use lib.ListN.{length, get_or, replicate}
-use borrow.Author.Tests.{lt-ltb, le-ltb}
+use Rattle.std.proofs.Common.{ℕ, zero, suc, ◌≤◌, ◌<◌, ◌≡◌, refl, ap, true, false, List, [], ◌∷◌, arith, ltb, length, get_or, replicate, lt-ltb, le-ltb}
 use Rattle.words.specs.Words.{zeros, word_at}
 use Rattle.words.proofs.Word.{word_zeros}
 use Rattle.choice.proofs.Tests.{by_test, differ}

@@ -1,10 +1,5 @@
 -- What a record's access answers by its span's: 0 where both are in order, the span's refusal, else 14; and how far it came. Assumes nothing.
-use Prim.Native.Nat.{ℕ, ◌<◌}
-use mathlib.Core.Path.{◌≡◌, refl}
-use mathlib.Core.Bool.{Bool, true, false}
-use mathlib.Core.List.{List}
-use native.Mathlib.Omega.{arith}
-use lib.Dec.{eqb}
+use Rattle.std.proofs.Common.{ℕ, ◌<◌, ◌≡◌, refl, Bool, true, false, List, arith, eqb}
 use borrow.Author.Tests.{eqb-false}
 use Rattle.layout.specs.Page.{page_size}
 use Rattle.choice.proofs.Tests.{by_test, differ}

@@ -1,11 +1,6 @@
 -- The place that a span load is answered with under the control block that an accepted span store at the same address left: where the store's bytes
 -- went. Assumes nothing.
-use Prim.Native.Nat.{ℕ, ◌<◌}
-use mathlib.Core.Path.{◌≡◌, refl}
-use mathlib.Core.Bool.{true}
-use mathlib.Core.List.{List}
-use native.Mathlib.Omega.{arith}
-use lib.Dec.{leb}
+use Rattle.std.proofs.Common.{ℕ, ◌<◌, ◌≡◌, refl, true, List, arith, leb}
 use Rattle.choice.proofs.Tests.{by_test}
 use Rattle.address.specs.Address.{offset_of}
 use Rattle.control.specs.Control.{frames, depth, control_valid}

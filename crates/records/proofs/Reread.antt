@@ -1,11 +1,6 @@
 -- Translation of a span load at once after an accepted span store, at the same address and as long: the tests pass again, and the answer is the
 -- place where the store's bytes went. Assumes nothing.
-use Prim.Native.Nat.{ℕ}
-use mathlib.Core.Path.{◌≡◌, refl, ap, ◌∙◌}
-use mathlib.Core.Bool.{true}
-use mathlib.Core.List.{List}
-use native.Mathlib.Omega.{arith}
-use lib.ListN.{length}
+use Rattle.std.proofs.Common.{ℕ, ◌≡◌, refl, ap, ◌∙◌, true, List, arith, length}
 use Rattle.address.specs.Address.{offset_of}
 use Rattle.snapshot.specs.Accounts.{entry_of, entry_valid, data_length}
 use Rattle.control.specs.Control.{current, control_valid}
@@ -20,7 +15,7 @@ use Rattle.segments.proofs.Requests.{span_aligned}
 use Rattle.segments.proofs.Table.{permitted_load}
 use Rattle.translate.specs.Translate.{concerned_valid, end_of, source_of, place_of, translate_of}
 use Rattle.translate.specs.declared.place.Place.{Place}
-use Rattle.translate.specs.declared.place.Place.TheVariants.{InPool, Take}
+use Rattle.translate.specs.declared.place.Place.TheVariants.{InSnapshot, InControl, Zeros, InPool, Take}
 use Rattle.translate.specs.declared.place.Translation.TheVariants.{Allowed}
 use Rattle.translate.specs.declared.request.Request.{Request}
 use Rattle.translate.proofs.Accepted.{request_of, accepted, accepted_answer}
@@ -63,6 +58,9 @@ load_request n h = h
 
 -- a store changes nothing of the control block but its frame table
 only_prepared : (s c p : List ℕ) (q : Place) → Writable s c p q → OnlyTable c (prepared_control c q)
+only_prepared s c p (InSnapshot _) w = elim w [ ]
+only_prepared s c p (InControl _) w = elim w [ ]
+only_prepared s c p Zeros w = elim w [ ]
 only_prepared s c p (InPool at) w = table_same c
 only_prepared s c p (Take t) w = table_put c t.frame.0 (copy_entry c t)
 

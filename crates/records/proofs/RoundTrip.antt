@@ -1,10 +1,6 @@
 -- A record that was written is read back: by the law of spans and the law of encoding, once over the layout, and so for each of the five.
 -- Assumes nothing.
-use Prim.Native.Nat.{ℕ}
-use mathlib.Core.Path.{◌≡◌, refl, ap, sym, ◌∙◌}
-use mathlib.Core.Bool.{true}
-use mathlib.Core.List.{List}
-use lib.ListN.{length}
+use Rattle.std.proofs.Common.{ℕ, ◌≡◌, refl, ap, sym, ◌∙◌, true, List, length}
 use Rattle.words.proofs.Run.{length-zeros}
 use Rattle.refusal.specs.Numbers.{done}
 use Rattle.records.specs.Layout.{Layout, record_length, encoded, Ranged, valid_fields, buffer_layout, event_layout, location_layout, call_record_layout, returned_layout}

@@ -14,7 +14,7 @@ use words::numbers::{u32_at, u64_at};
 
 // What a read gives: the record, how many bytes the access went where one is not present, and its number.
 #[repr(C)]
-#[derive(Drop)]
+#[derive(Clone, Copy)]
 pub struct BufferRead {
     pub record: Buffer,
     pub distance: u16,
@@ -22,7 +22,7 @@ pub struct BufferRead {
 }
 
 #[repr(C)]
-#[derive(Drop)]
+#[derive(Clone, Copy)]
 pub struct EventRead {
     pub record: Event,
     pub distance: u16,
@@ -30,7 +30,7 @@ pub struct EventRead {
 }
 
 #[repr(C)]
-#[derive(Drop)]
+#[derive(Clone, Copy)]
 pub struct LocationRead {
     pub record: Location,
     pub distance: u16,
@@ -38,7 +38,7 @@ pub struct LocationRead {
 }
 
 #[repr(C)]
-#[derive(Drop)]
+#[derive(Clone, Copy)]
 pub struct CallRecordRead {
     pub record: CallRecord,
     pub distance: u16,
@@ -46,7 +46,7 @@ pub struct CallRecordRead {
 }
 
 #[repr(C)]
-#[derive(Drop)]
+#[derive(Clone, Copy)]
 pub struct ReturnedRead {
     pub record: Returned,
     pub distance: u16,

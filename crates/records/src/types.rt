@@ -2,7 +2,7 @@
 
 // A buffer descriptor: the address of the first byte, passed on unchecked, and how many there are.
 #[repr(C)]
-#[derive(Drop)]
+#[derive(Clone, Copy)]
 pub struct Buffer {
     pub pointer: u64,
     pub length: u64,
@@ -10,7 +10,7 @@ pub struct Buffer {
 
 // An event: what kind it is, and its payload.
 #[repr(C)]
-#[derive(Drop)]
+#[derive(Clone, Copy)]
 pub struct Event {
     pub kind: Buffer,
     pub data: Buffer,
@@ -18,7 +18,7 @@ pub struct Event {
 
 // A place in a program's source.
 #[repr(C)]
-#[derive(Drop)]
+#[derive(Clone, Copy)]
 pub struct Location {
     pub file: Buffer,
     pub line: u32,
@@ -27,7 +27,7 @@ pub struct Location {
 
 // A call to a function of another context.
 #[repr(C)]
-#[derive(Drop)]
+#[derive(Clone, Copy)]
 pub struct CallRecord {
     pub context_id: Buffer,
     pub function: Buffer,
@@ -36,7 +36,7 @@ pub struct CallRecord {
 
 // A returned value: discriminant 0 for a result, 1 for an error.
 #[repr(C)]
-#[derive(Drop)]
+#[derive(Clone, Copy)]
 pub struct Returned {
     pub discriminant: u64,
     pub buffer: Buffer,

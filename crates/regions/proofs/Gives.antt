@@ -1,7 +1,5 @@
 -- What a resize promises of its number and of both buffers afterwards. Assumes nothing.
-use Prim.Native.Nat.{ℕ}
-use mathlib.Core.Path.{◌≡◌}
-use mathlib.Core.List.{List}
+use Rattle.std.proofs.Common.{ℕ, ◌≡◌, List}
 use Rattle.regions.specs.Resize.{Resized}
 
 -- the number n, the control block c and the pool p are what the outcome says

@@ -1,14 +1,7 @@
 -- Growing a region. One page takes the lowest free frame: its entry is the page's, its bytes are zeros, and all else is as it was.
 -- For more pages the same by induction: the frames that they take were all free before. Assumes nothing.
-use Prim.Native.Nat.{ℕ, zero, suc, ◌+◌, ◌*◌, ◌≤◌, ◌<◌}
-use mathlib.Core.Path.{◌≡◌, refl, sym, ap, ◌∙◌}
-use mathlib.Core.Bool.{true, false}
-use mathlib.Core.Logic.{◌≢◌, ◌⊎◌, inl, inr, ⊎_elim}
-use mathlib.Core.List.{List}
-use native.Mathlib.Decide.{dec_lt, ℕ_discrete}
-use native.Mathlib.Omega.{arith}
-use lib.ListN.{length}
-use borrow.Author.Tests.{ne_eqb}
+use Rattle.std.proofs.Common.{ℕ, zero, suc, ◌+◌, ◌*◌, ◌≤◌, ◌<◌, ◌≡◌, refl, sym, ap, ◌∙◌, true, false, ◌≢◌, ◌⊎◌, inl, inr, ⊎_elim, List, arith, length, ne_eqb}
+use Rattle.std.proofs.Math.Decide.{dec_lt, ℕ_discrete}
 use Rattle.layout.specs.Page.{page_size, page_limit, pool_length}
 use Rattle.words.specs.Words.{bytes_at, splice, zeros}
 use Rattle.words.proofs.Splice.{length-splice}

@@ -1,11 +1,5 @@
 -- The pages of a region, by their place from the nearest on: their numbers, their entries and their frames. Assumes nothing.
-use Prim.Native.Nat.{ℕ, ◌≤◌, ◌<◌}
-use mathlib.Core.Path.{◌≡◌, refl, ap}
-use mathlib.Core.Bool.{true, false}
-use mathlib.Core.Logic.{◌≢◌}
-use mathlib.Core.List.{List}
-use native.Mathlib.Omega.{arith}
-use lib.ListN.{length}
+use Rattle.std.proofs.Common.{ℕ, ◌≤◌, ◌<◌, ◌≡◌, refl, ap, true, false, ◌≢◌, List, arith, length}
 use Rattle.layout.specs.Control.{usage_copy}
 use Rattle.layout.specs.Page.{page_limit}
 use Rattle.snapshot.specs.declared.accounts.Account.{Account}

@@ -1,13 +1,7 @@
 -- Shrinking a region. The frames of the pages that go are found before any is freed: their entries become zeros, and all else is as it was.
 -- Assumes nothing.
-use Prim.Native.Nat.{ℕ, zero, suc, ◌+◌, ◌-◌, ◌≤◌, ◌<◌}
-use mathlib.Core.Path.{◌≡◌, refl, sym, ap, ◌∙◌}
-use mathlib.Core.Bool.{true}
-use mathlib.Core.Logic.{◌⊎◌, inl, inr, ⊎_elim}
-use mathlib.Core.List.{List}
-use native.Mathlib.Decide.{ℕ_discrete}
-use native.Mathlib.Omega.{arith}
-use lib.ListN.{length}
+use Rattle.std.proofs.Common.{ℕ, zero, suc, ◌+◌, ◌-◌, ◌≤◌, ◌<◌, ◌≡◌, refl, sym, ap, ◌∙◌, true, ◌⊎◌, inl, inr, ⊎_elim, List, arith, length}
+use Rattle.std.proofs.Math.Decide.{ℕ_discrete}
 use Rattle.choice.proofs.Tests.{fails}
 use Rattle.choice.proofs.Every.{every_at}
 use Rattle.snapshot.specs.declared.accounts.Account.{Account}

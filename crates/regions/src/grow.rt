@@ -50,6 +50,7 @@ fn take_page(c: &mut [u8], pool: &mut [u8], f: Frame, r: Region, page: Page, dep
 }
 
 // Takes frames for the pages from the size on, up to `pages`.
+#[tactic(auto, using(control::proofs::Facts::control_facts))]
 fn take_pages(c: &mut [u8], pool: &mut [u8], r: Region, size: usize, pages: usize)
     requires c_value { (control_valid c.old ≡ true) × (length pool.old ≡ pool_length (frames c.old)) }
     requires size_le_pages { (size ≤ pages) × (pages ≤ page_limit) × (pages - size ≤ free_count c.old) }
@@ -68,6 +69,7 @@ fn take_pages(c: &mut [u8], pool: &mut [u8], r: Region, size: usize, pages: usiz
 }
 
 // Grows the current invocation's region from its size to more pages, if that many frames are free.
+#[tactic(auto, using(control::proofs::Facts::control_facts))]
 pub fn grow_to(c: &mut [u8], pool: &mut [u8], r: Region, size: usize, pages: usize) -> u8
     requires c_value { (control_valid c.old ≡ true) × (length pool.old ≡ pool_length (frames c.old)) }
     requires size_value { (size ≡ pages_of (current c.old) r) × (size < pages) × (pages ≤ page_limit) }

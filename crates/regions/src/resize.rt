@@ -33,6 +33,7 @@ fn resize_check(s: &[u8], c: &[u8], pool: &[u8], region: u8, pages: usize) -> Ch
 }
 
 // Grows or shrinks the region of the current invocation; the same size changes nothing.
+#[tactic(auto, using(control::proofs::Facts::control_facts))]
 pub fn resize_to(c: &mut [u8], pool: &mut [u8], r: Region, pages: usize) -> u8
     requires c_value { (control_valid c.old ≡ true) × (length pool.old ≡ pool_length (frames c.old)) }
     requires r_bound { (pages_of (current c.old) r ≤ page_limit) × (pages ≤ page_limit) }

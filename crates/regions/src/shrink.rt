@@ -52,6 +52,7 @@ fn claimed(c: &[u8], i: usize, r: Region, pages: usize, n: usize) -> usize
 }
 
 // Lists the frames of the n pages from `pages` on, if each has one, and says whether it has. The first entry that claims a page is its frame.
+#[tactic(auto, using(control::proofs::Facts::control_facts))]
 fn list_frames(c: &[u8], table: &mut [u16], r: Region, pages: usize, n: usize) -> bool
     requires c_value { (control_valid c.now ≡ true) × (0 < n) × (pages + n ≤ page_limit) × (n ≤ length table.old) }
     requires by_index { (j : ℕ) → j < n → frames c.now ≤ get_or table.old j 0 }
@@ -80,6 +81,7 @@ fn list_frames(c: &[u8], table: &mut [u16], r: Region, pages: usize, n: usize) -
 
 // Whether the frame of each of the n pages from `pages` on has a tag at or above the depth. The region and `pages` are for the
 // contract: the table has the frames.
+#[tactic(auto, using(control::proofs::Facts::control_facts))]
 fn all_leave(c: &[u8], table: &[u16], r: Region, pages: usize, n: usize) -> bool
     requires { (control_valid c.now ≡ true) × FramesOf c.now r pages n table.now }
     ensures { result ≡ all_leave c.now r pages n }
@@ -108,6 +110,7 @@ fn free_pages(c: &mut [u8], table: &[u16], r: Region, pages: usize, n: usize)
 }
 
 // Shrinks the region, with a table that has room for the frames of the pages that go, and none of them yet.
+#[tactic(auto, using(control::proofs::Facts::control_facts))]
 fn shrink_by(c: &mut [u8], table: &mut [u16], r: Region, pages: usize, size: usize) -> u8
     requires c_value { (control_valid c.old ≡ true) × (size - pages ≤ length table.old) }
     requires by_index { (j : ℕ) → j < size - pages → frames c.old ≤ get_or table.old j 0 }

@@ -1,17 +1,13 @@
 -- What a valid request gives: each test that passed is a fact about its numbers. Assumes nothing.
-use Prim.Native.Nat.{ℕ, ◌+◌, ◌%◌, ◌≤◌, ◌<◌}
-use mathlib.Core.Path.{◌≡◌, sym, ◌∙◌}
-use mathlib.Core.Bool.{true}
-use native.Mathlib.Decide.{dec_lt}
-use native.Mathlib.Omega.{arith}
-use borrow.Author.Tests.{leb-true, le-leb, lt-leb}
+use Rattle.std.proofs.Common.{ℕ, ◌+◌, ◌%◌, ◌≤◌, ◌<◌, ◌≡◌, sym, ◌∙◌, true, arith, leb-true, le-leb, leb}
+use Rattle.std.proofs.Math.Decide.{dec_lt}
+use borrow.Author.Tests.{lt-leb}
 use Rattle.layout.specs.Page.{page_size}
 use Rattle.words.specs.Words.{is_size}
 use Rattle.words.proofs.Sizes.{size_short}
 use Rattle.choice.specs.Choice.{pick, both}
 use Rattle.choice.proofs.Tests.{by_test, both_true}
 use Rattle.segments.specs.Kinds.{kind_store_span, is_span, request_valid, aligned, within}
-use lib.Dec.{leb}
 
 -- orders that follow from each other have the same test
 pub same_leb : (a b c d : ℕ) → (a ≤ b → c ≤ d) → (c ≤ d → a ≤ b) → leb a b ≡ leb c d

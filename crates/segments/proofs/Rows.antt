@@ -1,13 +1,7 @@
 -- The turns of a loop that looks for a row, and what the row found and a row not found tell, by the definition's recursion.
 -- Assumes nothing.
-use Prim.Native.Nat.{ℕ, suc, ◌+◌, ◌<◌, ◌≤◌}
-use mathlib.Core.Path.{◌≡◌, sym, ◌∙◌}
-use mathlib.Core.Bool.{true, false}
-use mathlib.Core.List.{List, [], ◌∷◌, Memᴰ}
-use native.Mathlib.Numerals.{add-one}
-use native.Mathlib.Omega.{arith}
-use lib.ListN.{length, get_or, drop, drop_of_length-le}
-use lib.Seq.{drop-cons}
+use Rattle.std.proofs.Common.{ℕ, suc, ◌+◌, ◌<◌, ◌≤◌, ◌≡◌, sym, ◌∙◌, true, false, List, [], ◌∷◌, add-one, arith, length, get_or, drop, drop_of_length-le, drop-cons}
+use mathlib.Core.List.{Memᴰ}
 use Rattle.choice.proofs.Tests.{by_test, pick_true, pick_false}
 use Rattle.segments.specs.Rules.{row_of, row_matches}
 use Rattle.segments.specs.declared.rules.Row.{Row}
@@ -59,6 +53,7 @@ module _ (t i n : ℕ) where
 
   -- where none is found, no row of the list is that of the pair
   pub row_missing : (rs : List Row) → row_of rs t i n ≡ Missing → (r : Row) → Memᴰ r rs → row_matches r t i n ≡ false
+  row_missing [] e r m = elim m [ ]
   row_missing (s ∷ rs) e r (Memᴰ.head q) = rw q (first_other s rs e)
   row_missing (s ∷ rs) e r (Memᴰ.tail m) =
       row_missing rs (sym (first_miss t i n s rs (first_other s rs e)) ∙ e) r m

@@ -1,14 +1,9 @@
 -- The table's rule: one test over the whole table, which computes to true, and what it tells of the row that is found; then what
 -- the table permits. Assumes nothing.
-use Prim.Native.Nat.{ℕ, zero, suc, ◌≤◌, ◌<◌}
-use mathlib.Core.Path.{◌≡◌, refl, sym, ap, ◌∙◌}
-use mathlib.Core.Bool.{Bool, true, false, not}
-use mathlib.Core.List.{List, [], ◌∷◌, Memᴰ}
-use mathlib.Core.Logic.{◌⊎◌, ⊎_elim}
-use native.Mathlib.Decide.{dec_lt}
-use native.Mathlib.Omega.{arith}
-use lib.Dec.{eqb}
-use borrow.Author.Tests.{ltb-true, lt-ltb, le-ltb, eqb-true, eq-eqb, ne_eqb, not-true}
+use Rattle.std.proofs.Common.{ℕ, zero, suc, ◌≤◌, ◌<◌, ◌≡◌, refl, sym, ap, ◌∙◌, Bool, true, false, not, List, [], ◌∷◌, ⊎_elim, arith, eqb, ltb-true, lt-ltb, le-ltb, eqb-true, eq-eqb, ne_eqb}
+use mathlib.Core.List.{Memᴰ}
+use Rattle.std.proofs.Math.Decide.{dec_lt}
+use borrow.Author.Tests.{not-true}
 use Rattle.layout.specs.Control.{older}
 use Rattle.choice.specs.Choice.{pick, both, either}
 use Rattle.choice.proofs.Tests.{by_test, differ, both_true, either_true}
@@ -118,12 +113,14 @@ passed r rs e =
 
 -- each row is lawful
 each_lawful : (rs : List Row) → table rs ≡ true → (r : Row) → Memᴰ r rs → lawful r ≡ true
+each_lawful [] e r m = elim m [ ]
 each_lawful (s ∷ rs) e r (Memᴰ.head q) = rw q (passed s rs e).first
 each_lawful (s ∷ rs) e r (Memᴰ.tail m) = each_lawful rs (passed s rs e).rest r m
 
 -- a row of the list does not have a presence that none has
 none_has : (p : Presence) (rs : List Row) → fresh p rs ≡ true → (r : Row) → Memᴰ r rs → p ≡ r.presence → ⊥
 unfolding fresh
+none_has p [] e r m h = elim m [ ]
 none_has p (s ∷ rs) e r (Memᴰ.head q) h =
     let b = (both_true (not (same p s.presence)) (fresh p rs) e).0 in
     differ (same p s.presence) (eq-eqb (number p) (number s.presence) (cc)) (not-true (same p s.presence) b)
@@ -132,6 +129,7 @@ none_has p (s ∷ rs) e r (Memᴰ.tail m) h =
 
 -- two rows of the same presence are one
 one : (rs : List Row) → table rs ≡ true → (r s : Row) → Memᴰ r rs → Memᴰ s rs → r.presence ≡ s.presence → r ≡ s
+one [] e r s m k h = elim m [ ]
 one (x ∷ rs) e r s (Memᴰ.head p) (Memᴰ.head q) h = p ∙ sym q
 one (x ∷ rs) e r s (Memᴰ.head p) (Memᴰ.tail m) h =
     absurd (none_has x.presence rs (passed x rs e).other s m (cc))

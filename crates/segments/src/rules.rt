@@ -8,21 +8,21 @@ use layout::control::NEWER;
 
 // Which indices a row is for. The index is a usize so that a row is no whole number of at most 8 bytes: such a one the compiler moves about as a
 // number, and takes apart again.
-#[derive(Drop)]
+#[derive(Clone, Copy)]
 pub enum IndexRule {
     Exactly(usize),
     AnyAccount,
 }
 
 // Which editions have a row.
-#[derive(Drop)]
+#[derive(Clone, Copy)]
 pub enum Editions {
     Both,
     Newer,
 }
 
 // Which bytes of a segment are present.
-#[derive(Drop)]
+#[derive(Clone, Copy)]
 pub enum Presence {
     Transaction,
     Shadow,
@@ -35,7 +35,7 @@ pub enum Presence {
 }
 
 // Where a fetch is allowed in a segment: nowhere, everywhere, or in the account that the older edition runs.
-#[derive(Drop)]
+#[derive(Clone, Copy)]
 pub enum FetchRule {
     Nowhere,
     Everywhere,
@@ -43,7 +43,7 @@ pub enum FetchRule {
 }
 
 // Who may store.
-#[derive(Drop)]
+#[derive(Clone, Copy)]
 pub enum StoreRule {
     Never,
     Owner,
@@ -51,7 +51,7 @@ pub enum StoreRule {
 }
 
 // A row of the table: a segment type, its indices, the editions that have it, its bytes present, where a fetch is allowed, who may store.
-#[derive(Drop)]
+#[derive(Clone, Copy)]
 pub struct Row {
     pub segment: u8,
     pub index: IndexRule,
@@ -62,7 +62,7 @@ pub struct Row {
 }
 
 // What looking for a segment finds.
-#[derive(Drop)]
+#[derive(Clone, Copy)]
 pub enum Segment {
     Is(Row),
     Missing,

@@ -1,11 +1,5 @@
 -- What 13 says: the byte at the distance is absent, every byte before it is present, and the distance is below the length. Assumes nothing.
-use Prim.Native.Nat.{ℕ, ◌+◌, ◌-◌, ◌*◌, ◌/◌, ◌%◌, ◌≤◌, ◌<◌}
-use mathlib.Core.Path.{◌≡◌, refl, sym, ap}
-use mathlib.Core.Bool.{Bool, true, false, not}
-use mathlib.Core.List.{List}
-use native.Mathlib.Omega.{arith}
-use lib.Dec.{ltb, leb, eqb}
-use borrow.Author.Tests.{ltb-true, leb-false, lt-ltb, le-ltb}
+use Rattle.std.proofs.Common.{ℕ, ◌+◌, ◌-◌, ◌*◌, ◌/◌, ◌%◌, ◌≤◌, ◌<◌, ◌≡◌, refl, sym, ap, Bool, true, false, not, List, arith, ltb, leb, eqb, ltb-true, leb-false, lt-ltb, le-ltb}
 use Rattle.layout.specs.Page.{page_size}
 use Rattle.layout.specs.Address.{offsets}
 use Rattle.layout.specs.Snapshot.{context_size}

@@ -1,12 +1,6 @@
 -- What an answer of translation says of the tests before it: those before presence, where no refusal of theirs is the answer; all of
 -- them, where no test gives it, and that it is the place of the row. With it what that means in account data. Assumes nothing.
-use Prim.Native.Nat.{ℕ, ◌+◌, ◌-◌, ◌%◌, ◌≤◌, ◌<◌}
-use mathlib.Core.Path.{◌≡◌, refl, sym, ap, ◌∙◌}
-use mathlib.Core.Bool.{Bool, true, false}
-use mathlib.Core.List.{List}
-use native.Mathlib.Omega.{arith}
-use lib.Dec.{eqb, leb}
-use borrow.Author.Tests.{ltb-true, leb-true, lt-ltb, le-leb}
+use Rattle.std.proofs.Common.{ℕ, ◌+◌, ◌-◌, ◌%◌, ◌≤◌, ◌<◌, ◌≡◌, refl, sym, ap, ◌∙◌, Bool, true, false, List, arith, eqb, leb, ltb-true, leb-true, lt-ltb, le-leb}
 use Rattle.layout.specs.Page.{page_size}
 use Rattle.layout.specs.Address.{addresses}
 use Rattle.choice.proofs.Tests.{differ}

@@ -1,8 +1,5 @@
 -- An answer of translation is a place or a refusal, and its number tells which. Assumes nothing.
-use Prim.Native.Nat.{ℕ}
-use mathlib.Core.Path.{◌≡◌, refl}
-use native.Mathlib.Omega.{arith}
-use borrow.Author.Tests.{eq-eqb}
+use Rattle.std.proofs.Common.{ℕ, ◌≡◌, refl, arith, eq-eqb}
 use Rattle.choice.proofs.Tests.{differ}
 use Rattle.refusal.specs.Numbers.{done}
 use Rattle.refusal.specs.declared.Refusal.{Refusal}

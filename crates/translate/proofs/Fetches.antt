@@ -1,14 +1,7 @@
 -- Where a fetch is allowed, translation answers it as a load of the same bytes, refusals too; elsewhere it names no place. In the older edition
 -- 0/3 is no segment. Assumes nothing.
-use Prim.Native.Nat.{ℕ}
-use mathlib.Core.Path.{◌≡◌, refl, sym, ap, ◌∙◌}
-use mathlib.Core.Bool.{Bool, true, false}
-use mathlib.Core.Logic.{inl, inr, ⊎_elim}
-use mathlib.Core.List.{List}
-use native.Mathlib.Decide.{dec_lt}
-use native.Mathlib.Omega.{arith}
-use lib.Dec.{eqb}
-use borrow.Author.Tests.{eqb-true, eq-eqb}
+use Rattle.std.proofs.Common.{ℕ, ◌≡◌, refl, sym, ◌∙◌, Bool, true, inl, inr, ⊎_elim, List, arith, eqb, eqb-true, eq-eqb}
+use Rattle.std.proofs.Math.Decide.{dec_lt}
 use Rattle.layout.specs.Control.{older}
 use Rattle.choice.proofs.Tests.{differ, both_true}
 use Rattle.refusal.specs.declared.Check.TheVariants.{Pass}
@@ -98,7 +91,7 @@ module _ (s c : List ℕ) (a n : ℕ) where
   place_same Program = refl
   place_same Context = refl
   place_same Metadata = refl
-  place_same Data = data_same c _ (offset_of a) _ (frame_of c _)
+  place_same Data = data_same c (record { 0 = index_of a }) (offset_of a) _ (frame_of c _)
   place_same Stack = region_same c (offset_of a) (frame_of c _)
   place_same Heap = region_same c (offset_of a) (frame_of c _)
 

@@ -1,11 +1,6 @@
 -- A place that translation answers has room for all bytes of the access, and a frame to be taken is there with its page.
 -- Assumes nothing.
-use Prim.Native.Nat.{ℕ, ◌+◌, ◌*◌, ◌%◌, ◌≤◌, ◌<◌}
-use mathlib.Core.Path.{◌≡◌, refl}
-use mathlib.Core.List.{List}
-use native.Mathlib.Omega.{arith}
-use lib.ListN.{length}
-use borrow.Author.Tests.{lt-ltb}
+use Rattle.std.proofs.Common.{ℕ, ◌+◌, ◌*◌, ◌%◌, ◌≤◌, ◌<◌, ◌≡◌, refl, List, arith, length, lt-ltb}
 use Rattle.layout.specs.Page.{page_size}
 use Rattle.address.specs.Address.{offset_of}
 use Rattle.control.specs.Control.{frames}

@@ -1,11 +1,5 @@
 -- What is read on the way to a row's columns: an entry's place is a u32, the records and the program's entry are there. Assumes nothing.
-use Prim.Native.Nat.{ℕ, ◌+◌, ◌<◌, ◌≤◌}
-use mathlib.Core.Path.{◌≡◌}
-use mathlib.Core.Bool.{Bool, true, false}
-use mathlib.Core.List.{List}
-use native.Mathlib.Omega.{arith}
-use lib.ListN.{length, get_or}
-use borrow.Author.Tests.{lt-ltb}
+use Rattle.std.proofs.Common.{ℕ, ◌+◌, ◌<◌, ◌≤◌, ◌≡◌, Bool, true, false, List, arith, length, get_or, lt-ltb}
 use Rattle.layout.specs.Page.{page_limit}
 use Rattle.layout.specs.Control.{table_at, live_limit}
 use Rattle.layout.specs.Snapshot.{entry_size}

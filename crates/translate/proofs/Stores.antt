@@ -1,14 +1,6 @@
 -- Where an access leads: to a row without frames, to account data, or to a region; with it where a store and a load lead, and when a frame is
 -- taken or lacking: "8 is given exactly when a frame is needed and no entry has use 0". Assumes nothing.
-use Prim.Native.Nat.{ℕ, ◌+◌, ◌-◌, ◌/◌, ◌≤◌}
-use mathlib.Core.Path.{◌≡◌, refl, sym, ◌∙◌}
-use mathlib.Core.Bool.{Bool, true, false, not}
-use mathlib.Core.Logic.{◌≢◌}
-use mathlib.Core.List.{List}
-use native.Mathlib.Omega.{arith}
-use lib.Dec.{ltb, leb}
-use lib.ListN.{length}
-use borrow.Author.Tests.{ltb-true, leb-true}
+use Rattle.std.proofs.Common.{ℕ, ◌+◌, ◌-◌, ◌/◌, ◌≤◌, ◌≡◌, refl, sym, ◌∙◌, Bool, true, false, not, ◌≢◌, List, arith, ltb, leb, length, ltb-true, leb-true}
 use Rattle.layout.specs.Page.{page_size}
 use Rattle.choice.specs.Choice.{either}
 use Rattle.choice.proofs.Tests.{by_test, differ, fails}
@@ -242,11 +234,13 @@ module _ {s c p : List ℕ} {kind a n : ℕ} where
 
   -- the answer that takes a frame
   taken_of : {t : NewCopy} → Answer s c p kind a n (Allowed (Take t)) → Taken c kind a t
+  taken_of {t = t} (about_region r _ x4) = elim x4 [ ]
   taken_of (plain _ _ h _) = absurd (differ true refl h)
   taken_of (about_data h (taking x)) = x
 
   -- the answer that lacks one
   lacking_of : Answer s c p kind a n (Refused NoFrame) → Lacking c kind a
+  lacking_of (about_region r _ x4) = elim x4 [ ]
   lacking_of (about_data h (lacking x)) = x
 
 module _ (s c p : List ℕ) (kind a n : ℕ) where

@@ -1,5 +1,5 @@
 -- The row's tests were made: one refuses, or they pass and something follows. Assumes nothing.
-use mathlib.Core.Path.{◌≡◌}
+use Rattle.std.proofs.Common.{◌≡◌}
 use Rattle.refusal.specs.declared.Check.{Check}
 use Rattle.refusal.specs.declared.Check.TheVariants.{Pass, Stop}
 use Rattle.refusal.specs.declared.Refusal.{Refusal}

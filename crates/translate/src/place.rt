@@ -7,7 +7,7 @@ use refusal::{DONE, Refusal, distance, number};
 use snapshot::accounts::Account;
 
 // A frame that is to be taken for a copy of an account's page, and where the access's first byte stands in the pool then.
-#[derive(Drop)]
+#[derive(Clone, Copy)]
 pub struct NewCopy {
     pub at: usize,
     pub frame: Frame,
@@ -16,7 +16,7 @@ pub struct NewCopy {
 }
 
 // Where the first byte of an access stands.
-#[derive(Drop)]
+#[derive(Clone, Copy)]
 pub enum Place {
     // in the snapshot, from its start
     InSnapshot(usize),
@@ -31,7 +31,7 @@ pub enum Place {
 }
 
 // A place, or the first refusal in the order of document 01.
-#[derive(Drop)]
+#[derive(Clone, Copy)]
 pub enum Translation {
     Allowed(Place),
     Refused(Refusal),
@@ -39,7 +39,7 @@ pub enum Translation {
 
 // What every access answers besides a value: how many bytes it went where one is not present, and its number. In the order of the C
 // interface, so that it is handed on as it is.
-#[derive(Drop)]
+#[derive(Clone, Copy)]
 pub struct Outcome {
     pub distance: usize,
     pub number: u8,

@@ -13,7 +13,7 @@ use snapshot::accounts::Account;
 use snapshot::header::whole_header;
 
 // A buffer that bytes stand in whatever the frames hold, or none: they read as zeros.
-#[derive(Drop)]
+#[derive(Clone, Copy)]
 pub enum Buffer {
     Snapshot,
     Control,
@@ -21,7 +21,7 @@ pub enum Buffer {
 }
 
 // Where the bytes of a row stand: in one buffer, in the snapshot unless their page has a copy, or in a region's frames.
-#[derive(Drop)]
+#[derive(Clone, Copy)]
 pub enum Source {
     Plain(Buffer),
     Copy,
@@ -31,7 +31,7 @@ pub enum Source {
 // What is sought: whether the entry of the account concerned is valid, whether the row permits the kind of access, the offset at which the
 // bytes that are present from the access's own on end, where they stand, and where the first does in its buffer, frames aside. Plain
 // numbers: a place made here and handed on would go through memory.
-#[derive(Drop)]
+#[derive(Clone, Copy)]
 pub struct Sought {
     pub entry: bool,
     pub permitted: bool,

@@ -1,4 +1,7 @@
 // The view of an account's page: the part of the snapshot or of the pool that holds its live bytes now.
+
+#![tactic(auto)]
+
 ghost use Rattle.std.specs.Prelude.{◌≡◌, true, ◌<◌};
 ghost use Rattle.control.specs.Control.{control_valid};
 ghost use Rattle.view.specs.View.{view_of_entry, view_of, view_number, view_start, view_bytes};
@@ -12,7 +15,7 @@ use snapshot::accounts::{Account, AccountEntry};
 use snapshot::lookup::{Lookup, look_up};
 
 // Where a page's live bytes lie: a start and a length in the snapshot or in the pool.
-#[derive(Drop)]
+#[derive(Clone, Copy)]
 pub enum View {
     InSnapshot(usize, usize),
     InPool(usize, usize),
@@ -20,6 +23,7 @@ pub enum View {
 }
 
 // The view of a page, its account's entry being valid.
+#[tactic(auto, using(crate::proofs::Absent::no_live))]
 fn view_in(c: &[u8], a: Account, page: Page, e: AccountEntry) -> View
     requires { (control_valid c.now ≡ true) × (e.start < 4294967296) }
     ensures { result ≡ view_of_entry c.now a page e }

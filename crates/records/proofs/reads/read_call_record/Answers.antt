@@ -1,0 +1,15 @@
+use Rattle.records.proofs.reads.read_call_record.Goals as goal
+use Rattle.std.proofs.Common.{arith, refl}
+use Rattle.access.proofs.Near.{span_near}
+use Rattle.records.specs.Layout.{decoded, record_length, call_record_layout}
+use Rattle.records.proofs.Given.{zeros_array, valid_plain, read_valid_lem}
+
+pub overflow_cast-result : goal.overflow_cast-result
+overflow_cast-result c = omega (arith, span_near _ _ _ _ _ c.load_span-o.ensures.value)
+
+pub returns : goal.returns
+unfolding decoded record_length
+returns c =
+    let x = c.load_span-o.ensures in
+    let y = read_valid_lem _ _ _ call_record_layout _ (valid_plain call_record_layout _ refl) (zeros_array 48) x.value x.out_after in
+    rw (c.buffer_at.ensures, c.buffer_at-2.ensures, c.buffer_at-3.ensures, y.0, y.1)
