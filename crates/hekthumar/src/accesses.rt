@@ -14,7 +14,7 @@ use translate::translation::translate;
 
 // Translation's answer: a field that the case does not name is 0. Where a byte is not present, `at` is the distance to it.
 #[repr(C)]
-#[derive(Drop)]
+#[derive(Clone, Copy)]
 pub struct PlaceAnswer {
     pub at: u64,
     pub frame: u16,
@@ -26,7 +26,7 @@ pub struct PlaceAnswer {
 
 // A value, or 0 and the number of the refusal; where a byte is not present, the distance to it.
 #[repr(C)]
-#[derive(Drop)]
+#[derive(Clone, Copy)]
 pub struct ValueAnswer {
     pub value: u64,
     pub distance: u16,
@@ -35,7 +35,7 @@ pub struct ValueAnswer {
 
 // The number of an access without a value; where a byte is not present, the distance to it.
 #[repr(C)]
-#[derive(Drop)]
+#[derive(Clone, Copy)]
 pub struct OutcomeAnswer {
     pub distance: u16,
     pub number: u8,
@@ -81,8 +81,7 @@ fn place_of(p: Place) -> PlaceAnswer
 }
 
 // From an address to a place or a refusal.
-#[unsafe(no_mangle)]
-pub extern "C" fn hekthumar_translate(
+pub fn hekthumar_translate(
     snapshot: &[u8],
     control: &[u8],
     pool: &[u8],
@@ -135,8 +134,7 @@ pub fn outcome_answer(o: Outcome) -> OutcomeAnswer
 }
 
 // Loads 1, 2, 4 or 8 bytes.
-#[unsafe(no_mangle)]
-pub extern "C" fn hekthumar_load(
+pub fn hekthumar_load(
     snapshot: &[u8],
     control: &[u8],
     pool: &[u8],
@@ -151,8 +149,7 @@ pub extern "C" fn hekthumar_load(
 }
 
 // Fetches 1, 2, 4 or 8 bytes of the current program.
-#[unsafe(no_mangle)]
-pub extern "C" fn hekthumar_fetch(
+pub fn hekthumar_fetch(
     snapshot: &[u8],
     control: &[u8],
     pool: &[u8],
@@ -167,8 +164,7 @@ pub extern "C" fn hekthumar_fetch(
 }
 
 // Stores the lowest bytes of a value.
-#[unsafe(no_mangle)]
-pub extern "C" fn hekthumar_store(
+pub fn hekthumar_store(
     snapshot: &[u8],
     control: &mut [u8],
     pool: &mut [u8],
@@ -184,8 +180,7 @@ pub extern "C" fn hekthumar_store(
 }
 
 // Fills the lent buffer.
-#[unsafe(no_mangle)]
-pub extern "C" fn hekthumar_load_span(
+pub fn hekthumar_load_span(
     snapshot: &[u8],
     control: &[u8],
     pool: &[u8],
@@ -201,8 +196,7 @@ pub extern "C" fn hekthumar_load_span(
 }
 
 // Stores the whole of the lent buffer.
-#[unsafe(no_mangle)]
-pub extern "C" fn hekthumar_store_span(
+pub fn hekthumar_store_span(
     snapshot: &[u8],
     control: &mut [u8],
     pool: &mut [u8],

@@ -5,7 +5,7 @@ ghost use Rattle.hekthumar.specs.Answers.{address_answer, fields_answer};
 
 // An address, or 0 and the number of the refusal.
 #[repr(C)]
-#[derive(Drop)]
+#[derive(Clone, Copy)]
 pub struct AddressAnswer {
     pub address: u64,
     pub number: u8,
@@ -13,7 +13,7 @@ pub struct AddressAnswer {
 
 // The fields of an address, or zeros and the number of the refusal.
 #[repr(C)]
-#[derive(Drop)]
+#[derive(Clone, Copy)]
 pub struct FieldsAnswer {
     pub offset: u32,
     pub index: u16,
@@ -22,8 +22,7 @@ pub struct FieldsAnswer {
 }
 
 // Joins a type, an index and an offset.
-#[unsafe(no_mangle)]
-pub extern "C" fn hekthumar_join(segment: u8, index: u16, offset: u32) -> AddressAnswer
+pub fn hekthumar_join(segment: u8, index: u16, offset: u32) -> AddressAnswer
     ensures { result ≡ address_answer (join_of segment index offset) }
 {
     let j = address::join(segment, index, offset);
@@ -35,8 +34,7 @@ pub extern "C" fn hekthumar_join(segment: u8, index: u16, offset: u32) -> Addres
 }
 
 // Splits an address into its fields.
-#[unsafe(no_mangle)]
-pub extern "C" fn hekthumar_split(address: u64) -> FieldsAnswer
+pub fn hekthumar_split(address: u64) -> FieldsAnswer
     ensures { result ≡ fields_answer (split_of address) }
 {
     let f = address::split(address);

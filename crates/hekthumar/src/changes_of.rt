@@ -14,7 +14,7 @@ use view::{View, find_view};
 
 // The part of a buffer that holds a page's live bytes: holder 0 none, 1 snapshot, 2 pool.
 #[repr(C)]
-#[derive(Drop)]
+#[derive(Clone, Copy)]
 pub struct ViewAnswer {
     pub start: u64,
     pub length: u64,
@@ -23,13 +23,7 @@ pub struct ViewAnswer {
 }
 
 // Writes the change list into the lent buffer.
-#[unsafe(no_mangle)]
-pub extern "C" fn hekthumar_change_list(
-    snapshot: &[u8],
-    control: &[u8],
-    pool: &[u8],
-    out: &mut [u8],
-) -> u8
+pub fn hekthumar_change_list(snapshot: &[u8], control: &[u8], pool: &[u8], out: &mut [u8]) -> u8
     ensures value { result ≡ (lent snapshot.now control.now pool.now (change_list out.old)).answer.number }
     ensures out_after { out.new ≡ (lent snapshot.now control.now pool.now (change_list out.old)).answer.bytes }
     ensures control_value { control.now ≡ (lent snapshot.now control.now pool.now (change_list out.old)).after.control }
@@ -39,8 +33,7 @@ pub extern "C" fn hekthumar_change_list(
 }
 
 // Applies a change list to an account's data.
-#[unsafe(no_mangle)]
-pub extern "C" fn hekthumar_apply(list: &[u8], account: u16, data: &mut [u8]) -> u8
+pub fn hekthumar_apply(list: &[u8], account: u16, data: &mut [u8]) -> u8
     ensures value { result ≡ apply_number list.now (record { 0 = account }) «data».old }
     ensures data_after { «data».new ≡ apply_data list.now (record { 0 = account }) «data».old }
 {
@@ -48,8 +41,7 @@ pub extern "C" fn hekthumar_apply(list: &[u8], account: u16, data: &mut [u8]) ->
 }
 
 // Where an account page's live bytes lie now.
-#[unsafe(no_mangle)]
-pub extern "C" fn hekthumar_page_view(
+pub fn hekthumar_page_view(
     snapshot: &[u8],
     control: &[u8],
     pool: &[u8],

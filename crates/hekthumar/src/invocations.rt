@@ -8,8 +8,7 @@ use regions::resize::resize;
 use snapshot::accounts::Account;
 
 // Begins a program of an edition, 1 or 2, with one stack page: the whole control block is written, and frame 0 of the pool.
-#[unsafe(no_mangle)]
-pub extern "C" fn hekthumar_begin(
+pub fn hekthumar_begin(
     snapshot: &[u8],
     control: &mut [u8],
     pool: &mut [u8],
@@ -29,8 +28,7 @@ pub extern "C" fn hekthumar_begin(
 }
 
 // Begins a program of an edition, 1 or 2, with so many stack pages, 0 or 1.
-#[unsafe(no_mangle)]
-pub extern "C" fn hekthumar_begin_pages(
+pub fn hekthumar_begin_pages(
     snapshot: &[u8],
     control: &mut [u8],
     pool: &mut [u8],
@@ -51,8 +49,7 @@ pub extern "C" fn hekthumar_begin_pages(
 }
 
 // Calls a program with 256 bytes of registers.
-#[unsafe(no_mangle)]
-pub extern "C" fn hekthumar_call(
+pub fn hekthumar_call(
     snapshot: &[u8],
     control: &mut [u8],
     pool: &[u8],
@@ -67,8 +64,7 @@ pub extern "C" fn hekthumar_call(
 }
 
 // Returns from the current invocation, handing its registers back.
-#[unsafe(no_mangle)]
-pub extern "C" fn hekthumar_return(
+pub fn hekthumar_return(
     snapshot: &[u8],
     control: &mut [u8],
     pool: &[u8],
@@ -83,8 +79,7 @@ pub extern "C" fn hekthumar_return(
 }
 
 // Resizes a region of the current invocation: 2 is the stack, 3 the heap.
-#[unsafe(no_mangle)]
-pub extern "C" fn hekthumar_resize(
+pub fn hekthumar_resize(
     snapshot: &[u8],
     control: &mut [u8],
     pool: &mut [u8],

@@ -1,5 +1,8 @@
-// The C interface: thin exported functions over the proved calls. Every one accepts every input; a refusal changes no lent byte. A byte
-// buffer is a pointer and a length.
+// The interface: thin functions over the proved calls, which `hekthumar_c` exports to C. Every one accepts every input; a refusal changes no
+// lent byte.
+
+#![tactic(auto)]
+
 pub mod accesses;
 pub mod addresses;
 pub mod changes_of;

@@ -17,8 +17,7 @@ use records::writes::{
 };
 
 // Reads a buffer descriptor.
-#[unsafe(no_mangle)]
-pub extern "C" fn hekthumar_read_buffer(
+pub fn hekthumar_read_buffer(
     snapshot: &[u8],
     control: &[u8],
     pool: &[u8],
@@ -32,13 +31,7 @@ pub extern "C" fn hekthumar_read_buffer(
 }
 
 // Reads an event.
-#[unsafe(no_mangle)]
-pub extern "C" fn hekthumar_read_event(
-    snapshot: &[u8],
-    control: &[u8],
-    pool: &[u8],
-    address: u64,
-) -> EventRead
+pub fn hekthumar_read_event(snapshot: &[u8], control: &[u8], pool: &[u8], address: u64) -> EventRead
     ensures value { result ≡ step_event (lent snapshot.now control.now pool.now (read_record event_layout address)) }
     ensures control_value { control.now ≡ (lent snapshot.now control.now pool.now (read_record event_layout address)).after.control }
     ensures pool_value { pool.now ≡ (lent snapshot.now control.now pool.now (read_record event_layout address)).after.pool }
@@ -47,8 +40,7 @@ pub extern "C" fn hekthumar_read_event(
 }
 
 // Reads a location.
-#[unsafe(no_mangle)]
-pub extern "C" fn hekthumar_read_location(
+pub fn hekthumar_read_location(
     snapshot: &[u8],
     control: &[u8],
     pool: &[u8],
@@ -62,8 +54,7 @@ pub extern "C" fn hekthumar_read_location(
 }
 
 // Reads a call record.
-#[unsafe(no_mangle)]
-pub extern "C" fn hekthumar_read_call_record(
+pub fn hekthumar_read_call_record(
     snapshot: &[u8],
     control: &[u8],
     pool: &[u8],
@@ -77,8 +68,7 @@ pub extern "C" fn hekthumar_read_call_record(
 }
 
 // Reads a returned value.
-#[unsafe(no_mangle)]
-pub extern "C" fn hekthumar_read_returned(
+pub fn hekthumar_read_returned(
     snapshot: &[u8],
     control: &[u8],
     pool: &[u8],
@@ -92,8 +82,7 @@ pub extern "C" fn hekthumar_read_returned(
 }
 
 // Writes a buffer descriptor.
-#[unsafe(no_mangle)]
-pub extern "C" fn hekthumar_write_buffer(
+pub fn hekthumar_write_buffer(
     snapshot: &[u8],
     control: &mut [u8],
     pool: &mut [u8],
@@ -108,8 +97,7 @@ pub extern "C" fn hekthumar_write_buffer(
 }
 
 // Writes an event.
-#[unsafe(no_mangle)]
-pub extern "C" fn hekthumar_write_event(
+pub fn hekthumar_write_event(
     snapshot: &[u8],
     control: &mut [u8],
     pool: &mut [u8],
@@ -124,8 +112,7 @@ pub extern "C" fn hekthumar_write_event(
 }
 
 // Writes a location.
-#[unsafe(no_mangle)]
-pub extern "C" fn hekthumar_write_location(
+pub fn hekthumar_write_location(
     snapshot: &[u8],
     control: &mut [u8],
     pool: &mut [u8],
@@ -140,8 +127,7 @@ pub extern "C" fn hekthumar_write_location(
 }
 
 // Writes a call record.
-#[unsafe(no_mangle)]
-pub extern "C" fn hekthumar_write_call_record(
+pub fn hekthumar_write_call_record(
     snapshot: &[u8],
     control: &mut [u8],
     pool: &mut [u8],
@@ -156,8 +142,7 @@ pub extern "C" fn hekthumar_write_call_record(
 }
 
 // Writes a returned value.
-#[unsafe(no_mangle)]
-pub extern "C" fn hekthumar_write_returned(
+pub fn hekthumar_write_returned(
     snapshot: &[u8],
     control: &mut [u8],
     pool: &mut [u8],

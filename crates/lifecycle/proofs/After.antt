@@ -1,9 +1,5 @@
 -- Both regions stay right over each call, accepted or refused; an accepted begin makes them so. Assumes nothing.
-use Prim.Native.Nat.{ℕ}
-use mathlib.Core.Path.{◌≡◌}
-use mathlib.Core.List.{List}
-use native.Mathlib.Omega.{arith}
-use lib.ListN.{length}
+use Rattle.std.proofs.Common.{ℕ, ◌≡◌, List, arith, length}
 use Rattle.refusal.specs.declared.Check.TheVariants.{Pass}
 use Rattle.refusal.proofs.Checks.{by_check}
 use Rattle.snapshot.specs.declared.accounts.Account.{Account}

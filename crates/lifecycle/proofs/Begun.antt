@@ -1,8 +1,5 @@
 -- Both regions are right in a fresh control block: it has no pages and no frame in use. Assumes nothing.
-use Prim.Native.Nat.{ℕ}
-use mathlib.Core.Path.{◌≡◌, sym, ◌∙◌}
-use mathlib.Core.Bool.{true}
-use native.Mathlib.Omega.{arith}
+use Rattle.std.proofs.Common.{ℕ, ◌≡◌, sym, ◌∙◌, true, arith}
 use Rattle.control.specs.Control.{invocations, size_of}
 use Rattle.control.specs.declared.shadow.Region.{Region}
 use Rattle.control.specs.declared.shadow.Region.TheVariants.{Stack}

@@ -1,11 +1,6 @@
 -- Both regions stay right over a call: every entry stays, and the new record repeats the caller's sizes. Assumes nothing.
-use Prim.Native.Nat.{ℕ, ◌+◌, ◌≤◌, ◌<◌}
-use mathlib.Core.Path.{◌≡◌, refl, ap, ◌∙◌}
-use mathlib.Core.Logic.{inl}
-use mathlib.Core.List.{List}
-use native.Mathlib.Decide.{ℕ_discrete}
-use native.Mathlib.Omega.{arith}
-use lib.ListN.{length}
+use Rattle.std.proofs.Common.{ℕ, ◌+◌, ◌≤◌, ◌<◌, ◌≡◌, refl, ap, ◌∙◌, inl, List, arith, length}
+use Rattle.std.proofs.Math.Decide.{ℕ_discrete}
 use Rattle.refusal.specs.declared.Check.TheVariants.{Pass}
 use Rattle.snapshot.specs.declared.accounts.Account.{Account}
 use Rattle.control.specs.Control.{frames, invocations, pages_of, size_of, size_in}

@@ -1,11 +1,6 @@
 -- Both regions stay right where a copy takes a free frame. Assumes nothing.
-use Prim.Native.Nat.{ℕ, ◌<◌}
-use mathlib.Core.Path.{◌≡◌, sym, ap, ◌∙◌}
-use mathlib.Core.Bool.{true}
-use mathlib.Core.Logic.{inl, inr}
-use mathlib.Core.List.{List}
-use native.Mathlib.Decide.{ℕ_discrete}
-use native.Mathlib.Omega.{arith}
+use Rattle.std.proofs.Common.{ℕ, ◌<◌, ◌≡◌, sym, ap, ◌∙◌, true, inl, inr, List, arith}
+use Rattle.std.proofs.Math.Decide.{ℕ_discrete}
 use Rattle.layout.specs.Control.{usage_copy}
 use Rattle.control.specs.Control.{frames, pages_of, control_valid}
 use Rattle.control.specs.declared.shadow.Region.{Region}

@@ -1,12 +1,5 @@
 -- A region has as many frames as pages, and with those of the copies that is all that are in use. Assumes nothing.
-use Prim.Native.Nat.{ℕ, zero, suc, ◌+◌, ◌≤◌}
-use mathlib.Core.Path.{◌≡◌, refl, sym, ◌∙◌}
-use mathlib.Core.Bool.{true, false, not}
-use mathlib.Core.Logic.{◌≢◌}
-use mathlib.Core.List.{List}
-use native.Mathlib.Omega.{arith}
-use lib.Dec.{eqb}
-use borrow.Author.Tests.{eqb-true, eq-eqb, ne_eqb}
+use Rattle.std.proofs.Common.{ℕ, zero, suc, ◌+◌, ◌≤◌, ◌≡◌, refl, sym, ◌∙◌, true, false, not, ◌≢◌, List, arith, eqb, eqb-true, eq-eqb, ne_eqb}
 use Rattle.layout.specs.Control.{usage_copy}
 use Rattle.choice.specs.Choice.{either}
 use Rattle.choice.proofs.Counting.{count_ext}

@@ -1,10 +1,6 @@
 -- The depth at which a page was grown: the lowest whose size reaches above it. It stays where those sizes stay. Assumes nothing.
-use Prim.Native.Nat.{ℕ, suc, ◌-◌, ◌≤◌, ◌<◌}
-use mathlib.Core.Path.{◌≡◌, ◌∙◌}
-use mathlib.Core.List.{List}
-use native.Mathlib.Decide.{dec_lt}
-use native.Mathlib.Omega.{arith}
-use borrow.Author.Tests.{ltb-true, ltb-false, lt-ltb, le-ltb}
+use Rattle.std.proofs.Common.{ℕ, suc, ◌≤◌, ◌<◌, ◌≡◌, ◌∙◌, List, arith, ltb-true, ltb-false, lt-ltb, le-ltb}
+use Rattle.std.proofs.Math.Decide.{dec_lt}
 use Rattle.choice.proofs.Lowest.{lowest_hits, lowest_misses, lowest_is}
 use Rattle.control.specs.Control.{invocations, size_in}
 use Rattle.control.specs.declared.shadow.Region.{Region}

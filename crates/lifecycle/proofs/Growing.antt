@@ -1,14 +1,7 @@
 -- Both regions stay right where one grows: each new page has a frame that was free, with the depth as its tag, and only record D reaches above
 -- the new pages. Assumes nothing.
-use Prim.Native.Nat.{ℕ, suc, ◌+◌, ◌-◌, ◌≤◌, ◌<◌}
-use mathlib.Core.Path.{◌≡◌, sym, ap, ◌∙◌}
-use mathlib.Core.Bool.{true}
-use mathlib.Core.Logic.{◌≢◌, ◌⊎◌, inl, inr, ⊎_elim}
-use mathlib.Core.List.{List}
-use native.Mathlib.Decide.{dec_lt}
-use native.Mathlib.Omega.{arith}
-use lib.ListN.{length}
-use borrow.Author.Tests.{leb-true}
+use Rattle.std.proofs.Common.{ℕ, suc, ◌+◌, ◌-◌, ◌≤◌, ◌<◌, ◌≡◌, sym, ap, ◌∙◌, true, ◌≢◌, ◌⊎◌, inl, inr, ⊎_elim, List, arith, length, leb-true}
+use Rattle.std.proofs.Math.Decide.{dec_lt}
 use Rattle.layout.specs.Page.{page_limit, pool_length}
 use Rattle.choice.proofs.Tests.{by_test, fails}
 use Rattle.refusal.specs.declared.Check.TheVariants.{Pass}

@@ -1,11 +1,5 @@
 -- The heap at a return, and which pages of a region may be freed. Assumes nothing.
-use Prim.Native.Nat.{ℕ, ◌+◌, ◌-◌, ◌<◌}
-use mathlib.Core.Path.{◌≡◌, sym, ap, ◌∙◌}
-use mathlib.Core.Bool.{true}
-use mathlib.Core.Logic.{⊎_elim}
-use mathlib.Core.List.{List}
-use native.Mathlib.Omega.{arith}
-use borrow.Author.Tests.{le-leb, leb-true}
+use Rattle.std.proofs.Common.{ℕ, ◌+◌, ◌-◌, ◌<◌, ◌≡◌, sym, ap, ◌∙◌, true, ⊎_elim, List, arith, le-leb, leb-true}
 use Rattle.choice.proofs.Tests.{fails}
 use Rattle.choice.proofs.Every.{every_all}
 use Rattle.choice.proofs.Lowest.{lowest_ext}

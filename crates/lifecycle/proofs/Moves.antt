@@ -1,12 +1,6 @@
 -- A region's pages stay held where each entry is as it was, its page within the size, or is not the region's and held no page within it.
 -- Where the size stays, it is enough that the entries that change were and are not the region's. Tags play no part. Assumes nothing.
-use Prim.Native.Nat.{ℕ, ◌≤◌, ◌<◌}
-use mathlib.Core.Path.{◌≡◌, sym, ap, ◌∙◌}
-use mathlib.Core.Bool.{true}
-use mathlib.Core.Logic.{◌≢◌, ◌⊎◌, inl, inr, ⊎_elim}
-use mathlib.Core.List.{List}
-use native.Mathlib.Omega.{arith}
-use borrow.Author.Tests.{eqb-true}
+use Rattle.std.proofs.Common.{ℕ, ◌≤◌, ◌<◌, ◌≡◌, sym, ap, ◌∙◌, true, ◌≢◌, ◌⊎◌, inl, inr, ⊎_elim, List, arith, eqb-true}
 use Rattle.layout.specs.Page.{page_limit}
 use Rattle.choice.proofs.Tests.{fails}
 use Rattle.control.specs.Control.{frames, size_of}

@@ -1,13 +1,6 @@
 -- Both regions stay right over a resize: it grows, shrinks or changes nothing, and a refusal changes nothing.
 -- Assumes nothing.
-use Prim.Native.Nat.{ℕ, ◌≤◌}
-use mathlib.Core.Path.{◌≡◌, refl}
-use mathlib.Core.Bool.{true}
-use mathlib.Core.List.{List}
-use native.Mathlib.Omega.{arith}
-use lib.ListN.{length}
-use lib.Dec.{ltb}
-use borrow.Author.Tests.{leb-true, ltb-true}
+use Rattle.std.proofs.Common.{ℕ, ◌≤◌, ◌≡◌, refl, true, List, arith, length, ltb, leb-true, ltb-true}
 use Rattle.layout.specs.Page.{page_limit, pool_length}
 use Rattle.choice.proofs.Tests.{by_test}
 use Rattle.refusal.specs.Checks.{or_keep}

@@ -1,15 +1,9 @@
 -- Both regions stay right over a return. Of the stack: what it needs of tags and sizes stands first, it frees exactly the pages beyond the caller's
 -- size; from that on pages and frames are enough. Of the heap no frame is freed, and the caller's size becomes that of the invocation that returns.
 -- Assumes nothing.
-use Prim.Native.Nat.{ℕ, suc, ◌-◌, ◌≤◌, ◌<◌}
-use mathlib.Core.Path.{◌≡◌, sym, ap, ◌∙◌}
-use mathlib.Core.Bool.{true, false}
-use mathlib.Core.Logic.{inl, inr}
-use mathlib.Core.List.{List}
-use native.Mathlib.Decide.{dec_lt, ℕ_discrete}
-use native.Mathlib.Omega.{arith}
-use lib.Dec.{ltb, leb}
-use borrow.Author.Tests.{le-leb, lt-leb, leb-false}
+use Rattle.std.proofs.Common.{ℕ, suc, ◌-◌, ◌≤◌, ◌<◌, ◌≡◌, sym, ap, ◌∙◌, true, false, inl, inr, List, arith, ltb, leb, le-leb, leb-false}
+use Rattle.std.proofs.Math.Decide.{dec_lt, ℕ_discrete}
+use borrow.Author.Tests.{lt-leb}
 use Rattle.choice.proofs.Tests.{by_test, differ, pick_true, pick_false}
 use Rattle.refusal.specs.declared.Check.TheVariants.{Pass}
 use Rattle.control.specs.Control.{frames, invocations, depth, control_valid, current_valid, size_of, size_in}

@@ -1,13 +1,7 @@
 -- Both regions stay right where one shrinks: the frames of the pages from n on are freed, and no other changes. No page that goes has a tag below
 -- the depth, so the sizes of the callers stay at or below the new one. Assumes nothing.
-use Prim.Native.Nat.{ℕ, suc, ◌+◌, ◌-◌, ◌≤◌, ◌<◌}
-use mathlib.Core.Path.{◌≡◌, sym, ◌∙◌}
-use mathlib.Core.Bool.{true}
-use mathlib.Core.Logic.{◌≢◌, ◌⊎◌, inl, inr, ⊎_elim}
-use mathlib.Core.List.{List}
-use native.Mathlib.Decide.{dec_lt}
-use native.Mathlib.Omega.{arith}
-use borrow.Author.Tests.{leb-true}
+use Rattle.std.proofs.Common.{ℕ, suc, ◌+◌, ◌-◌, ◌≤◌, ◌<◌, ◌≡◌, sym, ◌∙◌, true, ◌≢◌, ◌⊎◌, inl, inr, ⊎_elim, List, arith, leb-true}
+use Rattle.std.proofs.Math.Decide.{dec_lt}
 use Rattle.choice.proofs.Tests.{fails}
 use Rattle.refusal.specs.declared.Check.TheVariants.{Pass}
 use Rattle.refusal.proofs.Checks.{need_then, need_pass}

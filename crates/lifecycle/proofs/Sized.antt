@@ -1,14 +1,7 @@
 -- A control block c with another frame table, g, and then another size n of region r: what its records read, that the other region stays right,
 -- and what becomes of the sizes and depths of this one. Assumes nothing.
-use Prim.Native.Nat.{ℕ, suc, ◌+◌, ◌-◌, ◌≤◌, ◌<◌}
-use mathlib.Core.Path.{◌≡◌, sym, ap, ◌∙◌}
-use mathlib.Core.Bool.{true}
-use mathlib.Core.Logic.{◌≢◌}
-use mathlib.Core.List.{List}
-use native.Mathlib.Decide.{ℕ_discrete}
-use native.Mathlib.Omega.{arith}
-use lib.Dec.{ltb}
-use borrow.Author.Tests.{lt-ltb}
+use Rattle.std.proofs.Common.{ℕ, suc, ◌+◌, ◌-◌, ◌≤◌, ◌<◌, ◌≡◌, sym, ap, ◌∙◌, true, ◌≢◌, List, arith, ltb, lt-ltb}
+use Rattle.std.proofs.Math.Decide.{ℕ_discrete}
 use Rattle.layout.specs.Control.{live_limit}
 use Rattle.layout.specs.Page.{page_limit}
 use Rattle.control.specs.Control.{frames, invocations, pages_of, control_valid, size_of, size_in}

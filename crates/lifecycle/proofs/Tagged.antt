@@ -1,12 +1,7 @@
 -- What is said of a region's tags and sizes stays: where there is no page more, sizes do not fall and each page keeps its depth; so where the
 -- sizes stay and further records repeat the last. Assumes nothing.
-use Prim.Native.Nat.{ℕ, suc, ◌-◌, ◌≤◌, ◌<◌}
-use mathlib.Core.Path.{◌≡◌, sym, ap, ◌∙◌}
-use mathlib.Core.Logic.{⊎_elim}
-use mathlib.Core.List.{List}
-use native.Mathlib.Decide.{dec_lt}
-use native.Mathlib.Omega.{arith}
-use lib.Dec.{ltb}
+use Rattle.std.proofs.Common.{ℕ, suc, ◌-◌, ◌≤◌, ◌<◌, ◌≡◌, sym, ap, ◌∙◌, ⊎_elim, List, arith, ltb}
+use Rattle.std.proofs.Math.Decide.{dec_lt}
 use Rattle.control.specs.Control.{frames, invocations, size_of, size_in}
 use Rattle.control.specs.declared.shadow.Region.{Region}
 use Rattle.frames.specs.declared.table.FrameEntry.{FrameEntry}

@@ -1,9 +1,8 @@
 -- Each trial of the table comes out as its row says: the whole table computes, and a table that passes passes at each row.
 -- Assumes nothing.
 use mathlib.Core.List.Memᴰ
-use mathlib.Core.List.{List, [], ◌∷◌, Memᴰ}
-use mathlib.Core.Logic.{⊎_elim}
-use lib.Dec.{T}
+use Rattle.std.proofs.Common.{List, [], ◌∷◌, ⊎_elim, T}
+use mathlib.Core.List.{Memᴰ}
 use Rattle.words.specs.Words.{word_at, word_bytes, zeros}
 use Rattle.choice.proofs.Tests.{by_test}
 use Rattle.choice.specs.Search.{seek, highest}

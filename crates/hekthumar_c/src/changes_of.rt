@@ -1,0 +1,52 @@
+// The change list, its application and the page view.
+ghost use Rattle.std.specs.Prelude.{◌≡◌};
+ghost use Rattle.apply.specs.Apply.{apply_number, apply_data};
+ghost use Rattle.view.specs.View.{view_of};
+ghost use Rattle.hekthumar.specs.Steps.{change_list, page_view, lent};
+ghost use Rattle.hekthumar.specs.Answers.{view_answer, viewed};
+
+use hekthumar::changes_of;
+use hekthumar::changes_of::ViewAnswer;
+
+// Writes the change list into the lent buffer.
+#[unsafe(no_mangle)]
+pub extern "C" fn hekthumar_change_list(
+    snapshot: &[u8],
+    control: &[u8],
+    pool: &[u8],
+    out: &mut [u8],
+) -> u8
+    ensures value { result ≡ (lent snapshot.now control.now pool.now (change_list out.old)).answer.number }
+    ensures out_after { out.new ≡ (lent snapshot.now control.now pool.now (change_list out.old)).answer.bytes }
+    ensures control_value { control.now ≡ (lent snapshot.now control.now pool.now (change_list out.old)).after.control }
+    ensures pool_value { pool.now ≡ (lent snapshot.now control.now pool.now (change_list out.old)).after.pool }
+{
+    changes_of::hekthumar_change_list(snapshot, control, pool, out)
+}
+
+// Applies a change list to an account's data.
+#[unsafe(no_mangle)]
+pub extern "C" fn hekthumar_apply(list: &[u8], account: u16, data: &mut [u8]) -> u8
+    ensures value { result ≡ apply_number list.now (record { 0 = account }) «data».old }
+    ensures data_after { «data».new ≡ apply_data list.now (record { 0 = account }) «data».old }
+{
+    changes_of::hekthumar_apply(list, account, data)
+}
+
+// Where an account page's live bytes lie now.
+#[unsafe(no_mangle)]
+pub extern "C" fn hekthumar_page_view(
+    snapshot: &[u8],
+    control: &[u8],
+    pool: &[u8],
+    account: u16,
+    page: u16,
+) -> ViewAnswer
+    ensures value { result ≡ view_answer (view_of snapshot.now control.now pool.now (record { 0 = account }) (record { 0 = page })) }
+    ensures number_value { result.number ≡ (lent snapshot.now control.now pool.now (page_view (record { 0 = account }) (record { 0 = page }))).answer.number }
+    ensures result_value { viewed snapshot.now pool.now result ≡ (lent snapshot.now control.now pool.now (page_view (record { 0 = account }) (record { 0 = page }))).answer.bytes }
+    ensures control_value { control.now ≡ (lent snapshot.now control.now pool.now (page_view (record { 0 = account }) (record { 0 = page }))).after.control }
+    ensures pool_value { pool.now ≡ (lent snapshot.now control.now pool.now (page_view (record { 0 = account }) (record { 0 = page }))).after.pool }
+{
+    changes_of::hekthumar_page_view(snapshot, control, pool, account, page)
+}
