@@ -12,79 +12,107 @@ use layout::control::NEWER;
 use layout::list::LIST_HEADER;
 use regions::resize::resize;
 use snapshot::accounts::Account;
+use std::io;
 use words::numbers::u32_at;
 
 // Begins the program, account 0, in the newer edition, with one stack page.
-pub fn begin_program(snapshot: &[u8], control: &mut [u8], pool: &mut [u8]) {
-    say(b"  begin 0");
+pub fn begin_program(
+    rt: &impl Print,
+    snapshot: &[u8],
+    control: &mut [u8],
+    pool: &mut [u8],
+) -> io::Result<()> {
+    say(rt, "  begin 0")?;
     let start = Start {
         program: Account(0),
         edition: NEWER as u32,
         pages: 1,
     };
-    answered(begin(snapshot, control, pool, start));
+    answered(rt, begin(snapshot, control, pool, start))
 }
 
 // Resizes a region: 2 is the stack, 3 the heap.
-pub fn resize_to(snapshot: &[u8], control: &mut [u8], pool: &mut [u8], region: u8, pages: usize) {
-    say(b"  resize region ");
-    number(region as u64);
-    say(b" to ");
-    number(pages as u64);
-    answered(resize(snapshot, control, pool, region, pages));
+pub fn resize_to(
+    rt: &impl Print,
+    snapshot: &[u8],
+    control: &mut [u8],
+    pool: &mut [u8],
+    region: u8,
+    pages: usize,
+) -> io::Result<()> {
+    print!(rt; "  resize region {region} to {pages}")?;
+    answered(rt, resize(snapshot, control, pool, region, pages))
 }
 
 // Loads 1, 2, 4 or 8 bytes.
-pub fn load_at(snapshot: &[u8], control: &[u8], pool: &[u8], address: u64, size: usize) {
-    say(b"  load ");
-    number(size as u64);
-    say(b" at ");
-    hex(address, 12);
+pub fn load_at(
+    rt: &impl Print,
+    snapshot: &[u8],
+    control: &[u8],
+    pool: &[u8],
+    address: u64,
+    size: usize,
+) -> io::Result<()> {
+    print!(rt; "  load {size} at ")?;
+    hex(rt, address, 12)?;
     let v = load(snapshot, control, pool, Address(address), size);
-    say(b": ");
+    say(rt, ": ")?;
     let o = v.outcome;
-    number(o.number as u64);
-    say(b", distance ");
-    number(o.distance as u64);
-    say(b", value ");
-    hex(v.value, 2);
-    say(b"\n");
+    number(rt, o.number as u64)?;
+    say(rt, ", distance ")?;
+    number(rt, o.distance as u64)?;
+    say(rt, ", value ")?;
+    hex(rt, v.value, 2)?;
+    say(rt, "\n")
 }
 
 // Stores one byte.
-pub fn store_byte(snapshot: &[u8], control: &mut [u8], pool: &mut [u8], address: u64, b: u64) {
-    say(b"  store ");
-    hex(b, 2);
-    say(b" at ");
-    hex(address, 12);
+pub fn store_byte(
+    rt: &impl Print,
+    snapshot: &[u8],
+    control: &mut [u8],
+    pool: &mut [u8],
+    address: u64,
+    b: u64,
+) -> io::Result<()> {
+    say(rt, "  store ")?;
+    hex(rt, b, 2)?;
+    say(rt, " at ")?;
+    hex(rt, address, 12)?;
     let o = store(snapshot, control, pool, Address(address), 1, b);
-    answered(o.number);
+    answered(rt, o.number)
 }
 
 // Prints the u32 at a place.
-fn show_word(list: &[u8], at: usize)
+fn show_word(rt: &impl Print, list: &[u8], at: usize) -> io::Result<()>
     requires { at + 4 ≤ length list.now }
 {
-    say(b" ");
-    number(u32_at(list, at) as u64);
+    let word = u32_at(list, at);
+    print!(rt; " {word}")
 }
 
 // Writes the change list, and prints the four words of its header where there is room for them.
-pub fn list_changes(snapshot: &[u8], control: &[u8], pool: &[u8], list: &mut [u8]) {
-    say(b"  change list");
-    answered(change_list(snapshot, control, pool, list));
-    say(b"  words");
+pub fn list_changes(
+    rt: &impl Print,
+    snapshot: &[u8],
+    control: &[u8],
+    pool: &[u8],
+    list: &mut [u8],
+) -> io::Result<()> {
+    say(rt, "  change list")?;
+    answered(rt, change_list(snapshot, control, pool, list))?;
+    say(rt, "  words")?;
     if LIST_HEADER <= list.len() {
-        show_word(list, 0);
-        show_word(list, 4);
-        show_word(list, 8);
-        show_word(list, 12);
+        show_word(rt, list, 0)?;
+        show_word(rt, list, 4)?;
+        show_word(rt, list, 8)?;
+        show_word(rt, list, 12)?;
     }
-    say(b"\n");
+    say(rt, "\n")
 }
 
 // Applies a change list to account 5.
-pub fn apply_list(list: &[u8], data: &mut [u8]) {
-    say(b"  apply to account 5");
-    answered(apply(list, Account(5), data));
+pub fn apply_list(rt: &impl Print, list: &[u8], data: &mut [u8]) -> io::Result<()> {
+    say(rt, "  apply to account 5")?;
+    answered(rt, apply(list, Account(5), data))
 }

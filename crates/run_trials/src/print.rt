@@ -1,46 +1,43 @@
 // Words, numbers and bytes on standard output. No contract can say what is printed.
-use libc::STDOUT_FILENO;
+use std::io;
 
 // Prints the words as they are.
-pub fn say(words: &[u8]) {
-    io::write_all(STDOUT_FILENO, words);
+pub fn say(rt: &impl Print, words: &str) -> io::Result<()> {
+    print!(rt; "{words}")
 }
 
 // Prints a number.
-pub fn number(n: u64) {
-    io::print_decimal(STDOUT_FILENO, n);
+pub fn number(rt: &impl Print, n: u64) -> io::Result<()> {
+    print!(rt; "{n}")
 }
 
 // Prints a number in sixteens, with at least so many digits.
-pub fn hex(n: u64, digits: usize) {
-    say(b"0x");
-    io::print_hex(STDOUT_FILENO, n, digits);
+pub fn hex(rt: &impl Print, n: u64, digits: usize) -> io::Result<()> {
+    print!(rt; "0x{n:0digits$x}")
 }
 
 // Prints the number that a call gave back, and ends the line.
-pub fn answered(n: u8) {
-    say(b": ");
-    number(n as u64);
-    say(b"\n");
+pub fn answered(rt: &impl Print, n: u8) -> io::Result<()> {
+    println!(rt; ": {n}")
 }
 
 // Prints byte i of a run as two digits, 32 bytes to a line.
-fn show_byte(i: usize, b: u8) {
+fn show_byte(rt: &impl Print, i: usize, b: u8) -> io::Result<()> {
     if i % 32 == 0 {
-        say(b"\n    ");
+        print!(rt; "\n    ")?;
     }
-    io::print_hex(STDOUT_FILENO, b as u64, 2);
+    print!(rt; "{b:02x}")
 }
 
 // Ends a line.
-fn end_line() {
-    say(b"\n");
+fn end_line(rt: &impl Print) -> io::Result<()> {
+    println!(rt)
 }
 
 // Prints a run of bytes, from a line of its own on.
-pub fn show(bytes: &[u8]) {
-    for i in 0..bytes.len() {
-        show_byte(i, bytes[i]);
+pub fn show(rt: &impl Print, bytes: &[u8]) -> io::Result<()> {
+    for (i, b) in bytes.iter().enumerate() {
+        show_byte(rt, i, *b)?;
     }
-    end_line();
+    end_line(rt)
 }

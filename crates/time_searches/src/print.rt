@@ -1,17 +1,17 @@
 // Words and numbers. No contract can say what is printed.
-use libc::{STDERR_FILENO, STDOUT_FILENO};
+use std::io;
 
 // Prints words on standard output.
-pub fn say(words: &[u8]) {
-    io::write_all(STDOUT_FILENO, words);
+pub fn say(rt: &impl Print, words: &str) -> io::Result<()> {
+    print!(rt; "{words}")
 }
 
 // Prints words on standard error.
-pub fn note(words: &[u8]) {
-    io::write_all(STDERR_FILENO, words);
+pub fn note(rt: &impl Eprint, words: &str) -> io::Result<()> {
+    eprint!(rt; "{words}")
 }
 
 // Prints a number on standard error.
-pub fn note_number(n: u64) {
-    io::print_decimal(STDERR_FILENO, n);
+pub fn note_number(rt: &impl Eprint, n: u64) -> io::Result<()> {
+    eprint!(rt; "{n}")
 }

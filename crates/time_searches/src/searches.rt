@@ -16,7 +16,7 @@ const SEARCHES: usize = 10000;
 const NOWHERE: u16 = 65535;
 
 // Which pages the table holds.
-#[derive(Drop)]
+#[derive(Clone, Copy)]
 pub enum Kind {
     AccountPages,
     StackPages,
