@@ -78,6 +78,7 @@ fn return_check(s: &[u8], c: &[u8], pool: &[u8], size: usize) -> Check
 }
 
 // Whether entry i is a stack frame's, with a tag at or above the depth.
+#[tactic(auto, unfolding(crate::specs::Invoke::leaves))]
 fn leaves_at(c: &[u8], i: usize, depth: usize) -> bool
     requires { entry_end i ≤ length c.now }
     ensures { result ≡ leaves depth (frame_entry_of c.now i) }
