@@ -59,6 +59,7 @@ impl Address {
 }
 
 // The address with these fields; an offset of 2^24 or more is refused.
+#[tactic(auto, using(crate::proofs::Laws::join_accepted, crate::proofs::Laws::join_refused))]
 pub fn join(segment_type: u8, index: u16, offset: u32) -> Joined
     ensures { result ≡ join_of segment_type index offset }
 {
@@ -77,6 +78,7 @@ pub fn join(segment_type: u8, index: u16, offset: u32) -> Joined
 }
 
 // The fields of an address; set upper bits are refused.
+#[tactic(auto, using(crate::proofs::Laws::split_accepted, crate::proofs::Laws::split_refused))]
 pub fn split(address: u64) -> Fields
     ensures { result ≡ split_of address }
 {

@@ -4,3 +4,4 @@ pub mod Begun
 pub mod Freed
 pub mod Depth
 pub mod Editions
+pub mod Decided

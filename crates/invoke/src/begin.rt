@@ -50,6 +50,7 @@ fn room_valid(control: usize, pool: usize) -> bool
 }
 
 // The tests of what is asked, in order: the number of pages and the edition, the program, a frame for each page.
+#[tactic(auto, using(crate::proofs::Decided::too_many))]
 fn start_check(s: &[u8], frames: usize, start: Start) -> Check
     requires { snapshot_valid s.now ≡ true }
     ensures { result ≡ start_check s.now frames start }
@@ -100,6 +101,7 @@ fn write_fresh(c: &mut [u8], start: Start)
 }
 
 // Begins a program: every byte of the control block is written, then its stack is resized, which takes frame 0 for one page.
+#[tactic(auto, using(crate::proofs::Decided::begin_done, crate::proofs::Decided::control_bare, crate::proofs::Decided::pool_kept))]
 pub fn begin(s: &[u8], c: &mut [u8], pool: &mut [u8], start: Start) -> u8
     ensures value { result ≡ begin_number s.now c.old pool.old start }
     ensures c_after { c.new ≡ begin_control s.now c.old pool.old start }

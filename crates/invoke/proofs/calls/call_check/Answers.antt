@@ -1,6 +1,6 @@
 use Rattle.invoke.specs.Invoke.{call_check}
 use Rattle.invoke.proofs.calls.call_check.Goals as goal
-use Rattle.std.proofs.Common.{sym, ◌∙◌, lt-ltb, le-ltb, eq-eqb, ne_eqb}
+use Rattle.std.proofs.Common.{sym, ◌∙◌, le-ltb, eq-eqb, ne_eqb, arith}
 use Rattle.refusal.proofs.Checks.{need_on, need_stop}
 use Rattle.control.proofs.Facts.{control_facts, buffers_facts}
 
@@ -14,21 +14,12 @@ invocation_count-requires c = (control_facts _ (buffers_facts _ _ _ (sym c.buffe
 pub program_check-requires : goal.program_check-requires
 program_check-requires c = (buffers_facts _ _ _ (sym c.buffers_valid.ensures ∙ c.if-buffers_valid.true)).snapshot
 
-pub returns-then-invocation_count-lt-INVOCATIONS :
-    goal.returns-then-invocation_count-lt-INVOCATIONS
-unfolding call_check
-returns-then-invocation_count-lt-INVOCATIONS c =
-    c.program_check.ensures
-    ∙ sym
-    (need_on _ _ _ (sym c.buffers_valid.ensures ∙ c.if-buffers_valid.true) ∙ need_on _ _ _ (eq-eqb _ _ c.if-size-ne-REGISTERS.false)
-    ∙ need_on _ _ _ (lt-ltb _ _ (rw c.invocation_count.ensures.0 at c.if-invocation_count-lt-INVOCATIONS.true)))
-
 pub returns-then-buffers_valid : goal.returns-then-buffers_valid
 unfolding call_check
 returns-then-buffers_valid c =
     sym
     (need_on _ _ _ (sym c.buffers_valid.ensures ∙ c.if-buffers_valid.true) ∙ need_on _ _ _ (eq-eqb _ _ c.if-size-ne-REGISTERS.false)
-    ∙ need_stop _ _ _ (le-ltb _ _ (rw c.invocation_count.ensures.0 at c.if-invocation_count-lt-INVOCATIONS.false)))
+    ∙ need_stop _ _ _ (le-ltb _ _ (omega arith)))
 
 pub returns : goal.returns
 unfolding call_check
