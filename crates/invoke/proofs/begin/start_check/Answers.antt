@@ -12,28 +12,28 @@ use Rattle.refusal.specs.declared.Refusal.TheVariants.{BadRequest, NoFrame}
 use Rattle.control.specs.Control.{edition_known}
 use Rattle.invoke.specs.declared.begin.Start.{Start}
 
-module _ (s : List ℕ) (f : ℕ) (x : Start) where
-  module _ (few : x.pages ≤ 1) where
-    -- no such edition
-    no_edition : edition_known x.edition ≡ false → Stop BadRequest ≡ start_check s f x
+-- at most one page is asked
+module _ (s : List ℕ) (f : ℕ) (x : Start) (few : x.pages ≤ 1) where
+  -- no such edition
+  no_edition : edition_known x.edition ≡ false → Stop BadRequest ≡ start_check s f x
+  unfolding start_check need ◌then◌
+  no_edition h = rw (le-leb _ _ few, h)
+
+  module _ (known : edition_known x.edition ≡ true) {k : Check} (e : k ≡ program_check s x.program) where
+    -- the program cannot be run
+    stopped : {r : Refusal} → k ≡ Stop r → Stop r ≡ start_check s f x
     unfolding start_check need ◌then◌
-    no_edition h = rw (le-leb _ _ few, h)
+    stopped h = rw (le-leb _ _ few, known, ← e, h)
 
-    module _ (known : edition_known x.edition ≡ true) {k : Check} (e : k ≡ program_check s x.program) where
-      -- the program cannot be run
-      stopped : {r : Refusal} → k ≡ Stop r → Stop r ≡ start_check s f x
-      unfolding start_check need ◌then◌
-      stopped h = rw (le-leb _ _ few, known, ← e, h)
+    -- it can, and there is a frame for each page
+    ready : k ≡ Pass → x.pages ≤ f → Pass ≡ start_check s f x
+    unfolding start_check need ◌then◌
+    ready h l = rw (le-leb _ _ few, known, ← e, h, le-leb _ _ l)
 
-      -- it can, and there is a frame for each page
-      ready : k ≡ Pass → x.pages ≤ f → Pass ≡ start_check s f x
-      unfolding start_check need ◌then◌
-      ready h l = rw (le-leb _ _ few, known, ← e, h, le-leb _ _ l)
-
-      -- there is none
-      no_frame : k ≡ Pass → f < x.pages → Stop NoFrame ≡ start_check s f x
-      unfolding start_check need ◌then◌
-      no_frame h l = rw (le-leb _ _ few, known, ← e, h, lt-leb _ _ l)
+    -- there is none
+    no_frame : k ≡ Pass → f < x.pages → Stop NoFrame ≡ start_check s f x
+    unfolding start_check need ◌then◌
+    no_frame h l = rw (le-leb _ _ few, known, ← e, h, lt-leb _ _ l)
 
 pub returns-else-is_edition : goal.returns-else-is_edition
 returns-else-is_edition c = no_edition _ _ _ (omega arith) (sym c.is_edition.ensures ∙ c.if-is_edition.false)
