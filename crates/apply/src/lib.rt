@@ -58,6 +58,7 @@ fn ascends(l: &[u8], i: usize) -> bool
 }
 
 // Whether entry i is in order, ends with a zero, and its live count is one that it may have.
+#[tactic(auto, unfolding(crate::specs::Apply::change_good))]
 fn change_good(l: &[u8], a: Account, size: usize, i: usize) -> bool
     requires { (i < 2 ^ 32) × (change_at i + change_size ≤ length l.now) }
     ensures { result ≡ change_good l.now a size i }

@@ -64,6 +64,17 @@ pub put_whole : (ws vs : List ℕ) {t : List ℕ} → t ≡ splice (replicate (r
 put_whole ws vs e =
     e ∙ splice_whole (replicate (record_length ws) 0) (encoded ws vs) (length-encoded ws vs ∙ sym (length-replicate {A = ℕ} (record_length ws) 0))
 
+-- a returned value written into zeros, its discriminant and behind it its descriptor: these are the record's bytes
+pub returned_written : (d pointer size : ℕ) → splice (splice (replicate 24 0) 0 (word_bytes 8 d)) 8 (encoded buffer_layout.widths (pointer ∷ size ∷ []))
+    ≡ encoded returned_layout.widths (d ∷ pointer ∷ size ∷ [])
+unfolding record_length
+returned_written d pointer size =
+    put_whole returned_layout.widths _
+    (put_next _ 0 (8 ∷ []) buffer_layout.widths (d ∷ []) _ refl (put_field _ _ 8 d refl) refl)
+
+-- these bytes, and how many they are
+pub ruleset returned_bytes = (returned_written, length-encoded)
+
 -- ---- the five: "16 bytes", "32 bytes", "24 bytes", "48 bytes", "24 bytes"
 
 pub sizes : (record_length buffer_layout.widths ≡ 16)

@@ -117,6 +117,7 @@ pub fn read_call_record(s: &[u8], c: &[u8], pool: &[u8], a: Address) -> CallReco
 }
 
 // Reads a returned value. Bytes of a refused span load are zeros, and so no bad discriminant: 14 comes after every refusal of the access.
+#[tactic(auto, using(crate::proofs::Given::returned_bad, crate::proofs::Given::returned_good, words::proofs::Word::word_zeros, translate::proofs::Absence::distance_near), unfolding(crate::specs::Layout::decoded, access::specs::Loads::load_span_outcome))]
 pub fn read_returned(s: &[u8], c: &[u8], pool: &[u8], a: Address) -> ReturnedRead
     ensures { result ≡ returned_read s.now c.now pool.now a.0 }
 {

@@ -89,6 +89,7 @@ fn refused_write(s: &[u8], c: &[u8], pool: &[u8], a: Address) -> Outcome
 }
 
 // Writes a returned value.
+#[tactic(auto, using(crate::proofs::Encoding::returned_bytes), unfolding(crate::specs::Layout::record_length, crate::specs::Layout::valid_fields, crate::specs::Calls::judged, crate::specs::Calls::write_outcome, crate::specs::Calls::write_control, crate::specs::Calls::write_pool))]
 pub fn write_returned(s: &[u8], c: &mut [u8], pool: &mut [u8], a: Address, v: Returned) -> Outcome
     ensures value { result ≡ write_outcome s.now c.old pool.old returned_layout a.0 (returned_fields v) }
     ensures c_after { c.new ≡ write_control s.now c.old pool.old returned_layout a.0 (returned_fields v) }

@@ -11,6 +11,7 @@ use refusal::{Check, Refusal};
 use segments::kinds::{aligned, request_valid, within};
 
 // The tests before the segment is known: the buffers, the request, the upper bits.
+#[tactic(auto, using(refusal::proofs::Checks::need_on, refusal::proofs::Checks::need_stop, refusal::proofs::Checks::need_last, refusal::proofs::Checks::need_refused), unfolding(crate::specs::Checks::first_checks))]
 pub fn first_checks(buffers: bool, kind: u8, a: Address, n: usize) -> Check
     ensures { result ≡ first_checks buffers kind a.0 n }
 {

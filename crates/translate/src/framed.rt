@@ -51,6 +51,7 @@ pub fn data_place(c: &[u8], kind: u8, a: Account, offset: usize, at: usize) -> T
 }
 
 // Where a region's byte stands: in the page's frame, if the frame's tag lets the kind pass.
+#[tactic(auto, using(control::proofs::Facts::control_facts, frames::proofs::Claims::search_found, frames::proofs::Claims::search_none), unfolding(crate::specs::Translate::region_place))]
 pub fn region_place(c: &[u8], r: Region, kind: u8, offset: usize) -> Translation
     requires { (control_valid c.now ≡ true) × (offset < offsets) }
     ensures { result ≡ region_place c.now r kind offset }
