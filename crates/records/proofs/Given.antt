@@ -15,6 +15,7 @@ use Rattle.segments.specs.Kinds.{kind_load_span, kind_store_span}
 use Rattle.access.specs.Stores.{store_outcome, store_control, store_pool}
 use Rattle.access.specs.Loads.{filled, load_span_outcome, load_span_out}
 use Rattle.records.specs.Layout.{Layout, record_length, encoded, decoded, valid_fields, returned_layout}
+use Rattle.records.proofs.Encoding.{length-encoded}
 use Rattle.records.specs.Calls.{blank, judged, read_valid, read_outcome, read_bytes, write_outcome, write_control, write_pool}
 
 -- an array of zeros, as bytes
@@ -71,23 +72,30 @@ unfolding judged
 judged-accepted e = rw e
 
 -- the read is then 14 and gives zeros
-read_bad : (s c p : List ℕ) (l : Layout) (a : ℕ) → read_valid s c p l a ≡ false
+pub read_bad : (s c p : List ℕ) (l : Layout) (a : ℕ) → read_valid s c p l a ≡ false
     → (read_outcome s c p l a ≡ record { number = number_of BadRecord; distance = 0 }) × (read_bytes s c p l a ≡ blank l)
 unfolding read_outcome read_bytes load_span_outcome load_span_out
 read_bad s c p l a bad = rw bad (judged-accepted (bad_accepted s c p l (translate_of s c p kind_load_span a (length (blank l))) bad), refl)
 
+-- a write that is not accepted for its record alone
+pub write_bad : (s c p : List ℕ) (l : Layout) (a : ℕ) (vs : List ℕ) → valid_fields l vs ≡ false
+    → {o : Outcome} → o ≡ judged false (store_outcome s c p kind_store_span a (record_length l.widths))
+    → (o ≡ write_outcome s c p l a vs) × ((c ≡ write_control s c p l a vs) × (p ≡ write_pool s c p l a vs))
+unfolding write_outcome write_control write_pool
+write_bad s c p l a vs bad e = rw (bad, length-encoded l.widths vs) (e, (refl, refl))
+
 -- ---- the discriminant of a returned value
 
 -- above 1 it is bad
-above_one : (d : ℕ) → 1 < d → ltb d 2 ≡ false
+pub above_one : (d : ℕ) → 1 < d → ltb d 2 ≡ false
 above_one d h = le-ltb d 2 (omega arith)
 
 -- else it is good
-up_to_one : (d : ℕ) → d ≤ 1 → ltb d 2 ≡ true
+pub up_to_one : (d : ℕ) → d ≤ 1 → ltb d 2 ≡ true
 up_to_one d h = lt-ltb d 2 (omega arith)
 
 -- it is the first number of the span load's bytes
-returned_valid : (s c p : List ℕ) (a : ℕ) {array bytes : List ℕ} {d : ℕ} → array ≡ blank returned_layout
+pub returned_valid : (s c p : List ℕ) (a : ℕ) {array bytes : List ℕ} {d : ℕ} → array ≡ blank returned_layout
     → bytes ≡ load_span_out s c p a array
     → d ≡ word_at 8 bytes 0
     → read_valid s c p returned_layout a ≡ ltb d 2
