@@ -3,3 +3,4 @@ pub mod Grown
 pub mod Shrunk
 pub mod Listed
 pub mod Gives
+pub mod Accepted

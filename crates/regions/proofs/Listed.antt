@@ -1,6 +1,6 @@
 -- Listing the frames of n pages of a region, from the k-th on: the entries of the frame table are looked at from the first on, and the first
 -- that claims a page is its frame. Assumes nothing.
-use Rattle.std.proofs.Common.{ℕ, ◌+◌, ◌-◌, ◌≤◌, ◌<◌, ◌≡◌, refl, sym, ap, ◌∙◌, Bool, true, false, List, arith, leb, eqb, length, get_or, set, get_or-set_same, get_or-set_other, leb-true, leb-false, le-leb, lt-ltb, le-ltb, eq-eqb, ne_eqb}
+use Rattle.std.proofs.Common.{ℕ, ◌+◌, ◌-◌, ◌≤◌, ◌<◌, ◌≡◌, refl, sym, ap, ◌∙◌, Bool, true, false, List, arith, leb, eqb, length, get_or, set, length-set, get_or-set_same, get_or-set_other, leb-true, leb-false, le-leb, lt-ltb, le-ltb, eq-eqb, ne_eqb}
 use Rattle.std.proofs.Math.Decide.{ℕ_discrete}
 use borrow.Author.Tests.{lt-leb}
 use Rattle.choice.specs.Choice.{pick}
@@ -124,3 +124,9 @@ list_held {c} {r} {k} {n} f = sym (every_all (λ j. is_found (page_frame c r (k 
 -- whose entry lies in the control block
 pub listed_inside : {c : List ℕ} {r : Region} {k n : ℕ} {t : List ℕ} → FramesOf c r k n t → control_valid c ≡ true → (j : ℕ) → j < n → entry_end (get_or t j 0) ≤ length c
 listed_inside {c} f ok j b = entry_inside c _ ok (frame_found c _ _ (f.each j b)).below
+
+-- entry i becomes the frame of the x-th page, the last that had none: each page has one
+pub last_found : (c : List ℕ) (r : Region) (k n m i left : ℕ) (t : List ℕ) (x : ℕ) → m ≤ get_or t x 0 → claim c r k x i ≡ true
+    → Listing c r k n m i left t → i < m → x < n → n ≤ length t → ((j : ℕ) → j < n → claim c r k j i ≡ eqb j x)
+    → left - 1 ≡ 0 → m ≡ frames c → all_held c r k n ≡ true
+last_found c r k n m i left t x h e s l b w one z all = sym (list_held (list_done (list_found s l x one b w h) all z (rw length-set w)))

@@ -14,6 +14,7 @@ use layout::page::REGION;
 use refusal::{Check, DONE, Refusal, number};
 
 // The tests of a resize, in order.
+#[tactic(auto, using(crate::proofs::Accepted::resize_tests))]
 fn resize_check(s: &[u8], c: &[u8], pool: &[u8], region: u8, pages: usize) -> Check
     ensures { result ≡ resize_check s.now c.now pool.now region pages }
 {
@@ -53,6 +54,7 @@ pub fn resize_to(c: &mut [u8], pool: &mut [u8], r: Region, pages: usize) -> u8
 }
 
 // Resizes the stack or the heap of the current invocation to so many pages.
+#[tactic(auto, using(crate::proofs::Accepted::resize_outcomes))]
 pub fn resize(s: &[u8], c: &mut [u8], pool: &mut [u8], region: u8, pages: usize) -> u8
     ensures value { result ≡ (resize_of s.now c.old pool.old region pages).number }
     ensures c_after { c.new ≡ (resize_of s.now c.old pool.old region pages).after.control }

@@ -52,7 +52,7 @@ fn claimed(c: &[u8], i: usize, r: Region, pages: usize, n: usize) -> usize
 }
 
 // Lists the frames of the n pages from `pages` on, if each has one, and says whether it has. The first entry that claims a page is its frame.
-#[tactic(auto, using(control::proofs::Facts::control_facts))]
+#[tactic(auto, using(control::proofs::Facts::control_facts, crate::proofs::Listed::last_found))]
 fn list_frames(c: &[u8], table: &mut [u16], r: Region, pages: usize, n: usize) -> bool
     requires c_value { (control_valid c.now ≡ true) × (0 < n) × (pages + n ≤ page_limit) × (n ≤ length table.old) }
     requires by_index { (j : ℕ) → j < n → frames c.now ≤ get_or table.old j 0 }

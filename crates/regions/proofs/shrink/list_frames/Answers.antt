@@ -1,17 +1,16 @@
 -- `regions::shrink::list_frames` meets its contract. The loop's invariant: the entries before the next are looked at, and a page is left
 -- that has no frame yet. Assumes nothing.
 use Rattle.std.proofs.Common.{refl, arith, length-set}
-use Rattle.regions.proofs.Listed.{list_start, list_other, list_again, list_found, list_done, list_held, list_misses}
+use Rattle.regions.proofs.Listed.{list_start, list_other, list_again, list_found, list_done, list_misses}
 use Rattle.regions.proofs.shrink.list_frames.Goals as goal
 
 pub loop-next-init : goal.loop-next-init
 loop-next-init c = (omega arith, omega arith, refl, list_start _ _ _ _ _ _ (λ j b. omega (arith, c.requires.by_index j b)))
 
-pub returns-then-left-eq0 : goal.returns-then-left-eq0
-returns-then-left-eq0 c =
+pub returns-then-left-eq0-clause-frames_of : goal.returns-then-left-eq0-clause-frames_of
+returns-then-left-eq0-clause-frames_of c =
     let l = list_found c.loop-next.invariant.3 c.loop-next-test.true _ c.claimed-j.ensures c.if-j-n.true (omega arith) c.if-frames-table.true in
-    let f = list_done l c.frame_count-frames.ensures.0 c.if-left-eq0.true (simp length-set (omega arith)) in
-    record { value = list_held f; frames_of = λ e. f }
+    λ e. list_done l c.frame_count-frames.ensures.0 c.if-left-eq0.true (simp length-set (omega arith))
 
 pub loop-next-preserved-else-left-eq0 : goal.loop-next-preserved-else-left-eq0
 loop-next-preserved-else-left-eq0 c = (
