@@ -5,7 +5,7 @@ use std::path::{Path, PathBuf};
 
 const ARCHIVE: &str = "libhekthumar.a";
 const OTHER: &str =
-    "HEKTHUMAR_LIB_DIR names a folder with another; `rt staticlib hekthumar` of the Rattle kit writes one to target/staticlib";
+    "HEKTHUMAR_LIB_DIR names a folder with another; with the Rattle kit, `lib/renew --to FOLDER` of the repository builds one from the proofs";
 
 fn main() {
     println!("cargo:rerun-if-env-changed=HEKTHUMAR_LIB_DIR");
