@@ -7,19 +7,18 @@ use Rattle.words.proofs.Splice.{length-splice}
 use Rattle.refusal.specs.declared.Refusal.{Refusal}
 use Rattle.segments.specs.Kinds.{is_store, request_valid}
 use Rattle.segments.proofs.Requests.{request_size, request_length}
-use Rattle.translate.specs.Place.{outcome_of}
+use Rattle.translate.specs.Place.{accepted, Translation}
 use Rattle.translate.specs.Translate.{translate_of}
 use Rattle.translate.specs.Fits.{Fits}
-use Rattle.translate.specs.declared.place.Outcome.{Outcome}
+use Rattle.refusal.specs.Checks.{Check}
 use Rattle.translate.specs.declared.place.Place.{Place}
 use Rattle.translate.specs.declared.place.Place.TheVariants.{InSnapshot, InControl, Zeros, InPool, Take}
-use Rattle.translate.specs.declared.place.Translation.{Translation}
-use Rattle.translate.specs.declared.place.Translation.TheVariants.{Allowed, Refused}
-use Rattle.translate.proofs.Accepted.{accepted}
+use Rattle.translate.proofs.Accepted as translated
 use Rattle.translate.proofs.Stores.{StorePlace, into_copy, into_new, into_region, store_place}
 use Rattle.translate.proofs.Places.{translate_fits}
 use Rattle.access.specs.Loads.{value_at, answered, span_at, filled}
-use Rattle.access.specs.Stores.{Writable, place_in_pool, prepared_control, prepared_pool, stored_at, store_outcome, store_control, store_pool}
+use Rattle.access.specs.Stores.{Writable, place_in_pool, prepared_control, prepared_pool, stored_at, store_of, store_control, store_pool}
+use Rattle.std.specs.Prelude.{Result, Err, Ok}
 
 -- ---- the place of a store
 
@@ -52,49 +51,50 @@ put_at s c p bytes Zeros w = elim w [ ]
 put_at s c p bytes (InPool at) w = refl
 put_at s c p bytes (Take t) w = refl
 
--- ---- an answer t, of which an access makes the outcome o
+-- ---- an answer t of translation, and what an access makes of it
 
-module _ (s c p : List ℕ) (kind a n : ℕ) {t : Translation} {o : Outcome} (is : t ≡ translate_of s c p kind a n) where
+module _ (s c p : List ℕ) (kind a n : ℕ) {t : Translation} (is : t ≡ translate_of s c p kind a n) where
   -- a refusal r
-  module _ (made : o ≡ outcome_of t) {r : Refusal} (e : t ≡ Refused r) where
+  module _ {r : Refusal} (e : t ≡ Err r) where
     -- what a load or a fetch gives
-    pub refused_value : record { value = 0; outcome = o } ≡ answered s c p n (translate_of s c p kind a n)
-    refused_value = rw (made, ← is, e)
+    pub refused_value : {x : Result ℕ Refusal} → x ≡ Err r → x ≡ answered s c p n (translate_of s c p kind a n)
+    refused_value h = rw (h, ← is, e)
 
     -- what a span load gives
-    pub refused_span : (out : List ℕ) → (o ≡ outcome_of (translate_of s c p kind a n)) × (out ≡ filled s c p out (translate_of s c p kind a n))
-    refused_span out = rw (made, ← is, e) (refl, refl)
+    pub refused_span : (out : List ℕ) {x : Check} → x ≡ Err r
+        → (x ≡ accepted (translate_of s c p kind a n)) × (out ≡ filled s c p out (translate_of s c p kind a n))
+    refused_span out h = rw (h, ← is, e) (refl, refl)
 
     -- what a store leaves
-    pub refused_store : (bytes : List ℕ) → length bytes ≡ n
-        → (o ≡ store_outcome s c p kind a n) × ((c ≡ store_control s c p kind a n) × (p ≡ store_pool s c p kind a bytes))
-    unfolding store_outcome store_control store_pool
-    refused_store bytes l = rw (made, l, ← is, e) (refl, (refl, refl))
+    pub refused_store : (bytes : List ℕ) → length bytes ≡ n → {x : Check} → x ≡ Err r
+        → (x ≡ store_of s c p kind a n) × ((c ≡ store_control s c p kind a n) × (p ≡ store_pool s c p kind a bytes))
+    unfolding store_of store_control store_pool
+    refused_store bytes l h = rw (h, l, ← is, e) (refl, (refl, refl))
 
   -- a place q
-  module _ {q : Place} (made : o ≡ outcome_of (Allowed q)) (e : t ≡ Allowed q) where
+  module _ {q : Place} (e : t ≡ Ok q) where
     -- what a load or a fetch gives
-    pub given_value : {v : ℕ} → v ≡ value_at s c p n q → record { value = v; outcome = o } ≡ answered s c p n (translate_of s c p kind a n)
-    given_value h = rw (h, made, ← is, e)
+    pub given_value : {v : ℕ} → v ≡ value_at s c p n q → Ok v ≡ answered s c p n (translate_of s c p kind a n)
+    given_value h = rw (h, ← is, e)
 
     -- what a span load gives
     pub given_span : (out : List ℕ) {out' : List ℕ} → out' ≡ span_at s c p out q
-        → (o ≡ outcome_of (translate_of s c p kind a n)) × (out' ≡ filled s c p out (translate_of s c p kind a n))
-    given_span out h = rw (h, made, ← is, e) (refl, refl)
+        → (Ok tt ≡ accepted (translate_of s c p kind a n)) × (out' ≡ filled s c p out (translate_of s c p kind a n))
+    given_span out h = rw (h, ← is, e) (refl, refl)
 
     -- what a store leaves
     pub given_store : (bytes : List ℕ) → length bytes ≡ n → Writable s c p q → {at : ℕ} {c' p' p'' : List ℕ} → at ≡ place_in_pool q → c' ≡ prepared_control c q
         → p' ≡ prepared_pool s p q → p'' ≡ splice p' at bytes
-        → (o ≡ store_outcome s c p kind a n) × ((c' ≡ store_control s c p kind a n) × (p'' ≡ store_pool s c p kind a bytes))
-    unfolding store_outcome store_control store_pool
-    given_store bytes l w h₁ h₂ h₃ h₄ = rw (h₄, h₃, h₂, h₁, l, made, ← is, e) (refl, (refl, put_at s c p bytes q w))
+        → (Ok tt ≡ store_of s c p kind a n) × ((c' ≡ store_control s c p kind a n) × (p'' ≡ store_pool s c p kind a bytes))
+    unfolding store_of store_control store_pool
+    given_store bytes l w h₁ h₂ h₃ h₄ = rw (h₄, h₃, h₂, h₁, l, ← is, e) (refl, (refl, put_at s c p bytes q w))
 
 -- ---- an answer t that is a place q
 
-module _ (s c p : List ℕ) (kind a n : ℕ) {t : Translation} (is : t ≡ translate_of s c p kind a n) {q : Place} (e : t ≡ Allowed q) where
+module _ (s c p : List ℕ) (kind a n : ℕ) {t : Translation} (is : t ≡ translate_of s c p kind a n) {q : Place} (e : t ≡ Ok q) where
   -- the request is valid
   request : request_valid kind n ≡ true
-  request = (accepted s c p kind a n (sym is ∙ e) refl).request
+  request = (translated.accepted s c p kind a n (sym is ∙ e) refl).request
 
   -- the place has room for n bytes
   pub place_room : Fits s c p n q

@@ -3,3 +3,4 @@ pub mod Entry
 pub mod Seen
 pub mod Near
 pub mod Fetches
+pub mod Outcomes

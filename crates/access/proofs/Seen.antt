@@ -12,17 +12,16 @@ use Rattle.snapshot.proofs.Facts.{get_or-original}
 use Rattle.pages.specs.Pages.{page_start, frame_start, in_frame, original_page}
 use Rattle.pages.proofs.PageBytes.{length-original_page, original_byte}
 use Rattle.frames.specs.Table.{frame_of}
-use Rattle.frames.specs.declared.claim.Found.{Found}
-use Rattle.frames.specs.declared.claim.Found.TheVariants.{At, Nothing}
 use Rattle.segments.specs.Kinds.{kind_load, kind_load_span}
 use Rattle.translate.specs.Translate.{translate_of}
 use Rattle.translate.specs.declared.place.NewCopy.{NewCopy}
 use Rattle.translate.specs.declared.place.Place.{Place}
-use Rattle.translate.specs.declared.place.Translation.TheVariants.{Allowed}
 use Rattle.translate.proofs.Accepted.{account_of, data_accepted}
 use Rattle.translate.proofs.Stores.{copy_of, LoadPlace, from_copy, from_original, load_place}
-use Rattle.access.specs.Loads.{value_at, span_at, load_of, load_span_out}
+use Rattle.access.specs.Loads.{value_at, value_in, span_at, load_of, load_span_out}
 use Rattle.access.specs.Stores.{taken_pool}
+use Rattle.std.specs.Prelude.{None, Ok, Option, Some}
+use Rattle.pages.specs.declared.Frame.{Frame}
 
 -- ---- the copy of a page
 
@@ -37,9 +36,9 @@ copied_byte s p t h k l =
 -- ---- an accepted load of account data
 
 -- what is read at an address: in the frame that was found for its page, or else in the original data
-abbrev pub seen : {X : Type 0} → (List ℕ → ℕ → X) → List ℕ → List ℕ → ℕ → Found → X
-seen read s p a (At f) = read p (in_frame f (offset_of a))
-seen read s p a Nothing = read (original s (account_of a)) (offset_of a)
+abbrev pub seen : {X : Type 0} → (List ℕ → ℕ → X) → List ℕ → List ℕ → ℕ → Option Frame → X
+seen read s p a (Some f) = read p (in_frame f (offset_of a))
+seen read s p a None = read (original s (account_of a)) (offset_of a)
 
 module _ (s c p : List ℕ) (a : ℕ) where
   -- n bytes of the original data stand in the snapshot
@@ -62,14 +61,14 @@ module _ (s c p : List ℕ) (a : ℕ) where
   span_seen out h (from_original x) = rw (x.none, x.place) (bytes_at_ext (length out) _ _ _ _ (original-run (length out) h))
 
   -- "Later loads in type 3 .. read the frame": the value of a load
-  pub load_value : (n : ℕ) {q : Place} → type_of a ≡ 3 → translate_of s c p kind_load a n ≡ Allowed q
-      → (load_of s c p a n).value ≡ seen (word_at n) s p a (frame_of c (copy_of a))
+  pub load_value : (n : ℕ) {q : Place} → type_of a ≡ 3 → translate_of s c p kind_load a n ≡ Ok q
+      → value_in (load_of s c p a n) ≡ seen (word_at n) s p a (frame_of c (copy_of a))
   unfolding load_of
   load_value n h e =
       rw e (value_seen n (data_accepted s c p kind_load a n e refl h).0.present (load_place s c p kind_load a n refl h e))
 
   -- the bytes of a span load
-  pub load_span_bytes : (out : List ℕ) {q : Place} → type_of a ≡ 3 → translate_of s c p kind_load_span a (length out) ≡ Allowed q
+  pub load_span_bytes : (out : List ℕ) {q : Place} → type_of a ≡ 3 → translate_of s c p kind_load_span a (length out) ≡ Ok q
       → load_span_out s c p a out ≡ seen (bytes_at (length out)) s p a (frame_of c (copy_of a))
   unfolding load_span_out
   load_span_bytes out h e =

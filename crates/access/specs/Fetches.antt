@@ -1,8 +1,7 @@
 -- Document 02, "Six": a fetch where it is allowed, elsewhere, and 0/3 in the older edition; for every byte of the three buffers. Assumes nothing.
-use Rattle.std.specs.Prelude.{ℕ, ◌≡◌, List}
+use Rattle.std.specs.Prelude.{ℕ, ◌≡◌, List, Ok}
 use Rattle.layout.specs.Control.{older}
 use Rattle.refusal.specs.Numbers.{done, number_of}
-use Rattle.refusal.specs.declared.Check.TheVariants.{Pass}
 use Rattle.refusal.specs.declared.Refusal.TheVariants.{NoSegment}
 use Rattle.address.specs.Address.{type_of, index_of}
 use Rattle.control.specs.Control.{edition, buffers_valid}
@@ -18,10 +17,10 @@ FetchIsLoad = (s c p : List ℕ) (a n : ℕ) → Fetchable c a → fetch_of s c 
 
 -- "elsewhere it is 7": no fetch is accepted there
 abbrev pub FetchNowhereElse : Type 0
-FetchNowhereElse = (s c p : List ℕ) (a n : ℕ) → (fetch_of s c p a n).outcome.number ≡ done → Fetchable c a
+FetchNowhereElse = (s c p : List ℕ) (a n : ℕ) → (outcome_of (fetch_of s c p a n)).number ≡ done → Fetchable c a
 
 -- "index 3 of type 0 is reserved (4 for every kind)", once the tests before it have passed
 abbrev pub OlderReserved : Type 0
 OlderReserved =
-    (s c p : List ℕ) (kind a n : ℕ) → edition c ≡ older → type_of a ≡ 0 → index_of a ≡ 3 → first_checks (buffers_valid s c p) kind a n ≡ Pass
+    (s c p : List ℕ) (kind a n : ℕ) → edition c ≡ older → type_of a ≡ 0 → index_of a ≡ 3 → first_checks (buffers_valid s c p) kind a n ≡ Ok tt
     → (outcome_of (translate_of s c p kind a n)).number ≡ number_of NoSegment

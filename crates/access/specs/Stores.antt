@@ -1,19 +1,17 @@
 -- Document 01, "Order for an access" and "Copies", with document 02, "Eight": stores and span stores. Assumes nothing.
-use Rattle.std.specs.Prelude.{ℕ, List, length}
+use Rattle.std.specs.Prelude.{ℕ, List, length, Err, Ok}
 use Rattle.layout.specs.Control.{usage_copy}
 use Rattle.words.specs.Words.{splice}
+use Rattle.refusal.specs.Checks.{Check}
 use Rattle.control.specs.Control.{depth}
 use Rattle.pages.specs.Pages.{frame_start, original_page}
 use Rattle.frames.specs.Table.{put_frame_entry}
 use Rattle.frames.specs.declared.table.FrameEntry.{FrameEntry}
-use Rattle.translate.specs.Place.{outcome_of}
+use Rattle.translate.specs.Place.{outcome_of, accepted, Translation, Outcome}
 use Rattle.translate.specs.Translate.{translate_of}
 use Rattle.translate.specs.declared.place.NewCopy.{NewCopy}
-use Rattle.translate.specs.declared.place.Outcome.{Outcome}
 use Rattle.translate.specs.declared.place.Place.{Place}
 use Rattle.translate.specs.declared.place.Place.TheVariants.{InSnapshot, InControl, Zeros, InPool, Take}
-use Rattle.translate.specs.declared.place.Translation.{Translation}
-use Rattle.translate.specs.declared.place.Translation.TheVariants.{Allowed, Refused}
 use Rattle.translate.specs.Fits.{CopyFits}
 
 -- a store's place is in the pool, or a frame to be taken: translation gives a store no other
@@ -62,8 +60,8 @@ prepared_pool s p (Take t) = taken_pool s p t
 
 -- the control block after an answer: a refusal leaves it
 abbrev pub control_after : List ℕ → Translation → List ℕ
-control_after c (Allowed q) = prepared_control c q
-control_after c (Refused r) = c
+control_after c (Ok q) = prepared_control c q
+control_after c (Err r) = c
 
 -- the pool with the bytes at a place: "then stores". A store has no other place than these two; at any other the pool stays
 abbrev pub stored_at : List ℕ → List ℕ → List ℕ → Place → List ℕ
@@ -75,10 +73,14 @@ stored_at s p bytes (Take t) = splice (taken_pool s p t) t.at bytes
 
 -- the pool after an answer
 abbrev pub pool_after : List ℕ → List ℕ → List ℕ → Translation → List ℕ
-pool_after s p bytes (Allowed q) = stored_at s p bytes q
-pool_after s p bytes (Refused r) = p
+pool_after s p bytes (Ok q) = stored_at s p bytes q
+pool_after s p bytes (Err r) = p
 
--- what a store answers, of either kind
+-- a store of either kind: it is allowed, or refused
+unfoldable pub store_of : List ℕ → List ℕ → List ℕ → ℕ → ℕ → ℕ → Check
+store_of s c p kind a n = accepted (translate_of s c p kind a n)
+
+-- its number and distance
 unfoldable pub store_outcome : List ℕ → List ℕ → List ℕ → ℕ → ℕ → ℕ → Outcome
 store_outcome s c p kind a n = outcome_of (translate_of s c p kind a n)
 

@@ -2,12 +2,13 @@
 ghost use Rattle.std.specs.Prelude.{◌≡◌, length};
 ghost use Rattle.words.specs.Words.{word_bytes};
 ghost use Rattle.segments.specs.Kinds.{kind_store, kind_store_span};
-ghost use Rattle.access.specs.Stores.{Writable, place_in_pool, prepared_control, prepared_pool, store_outcome, store_control, store_pool};
+ghost use Rattle.access.specs.Stores.{Writable, place_in_pool, prepared_control, prepared_pool, store_of, store_control, store_pool};
 
 use super::copies::take_copy;
 use address::Address;
+use refusal::Refusal;
 use segments::kinds::{STORE, STORE_SPAN};
-use translate::place::{NewCopy, Outcome, Place, Translation, outcome_of};
+use translate::place::{NewCopy, Place};
 use translate::translation::translate;
 use words::numbers::write;
 use words::runs::copy;
@@ -42,46 +43,75 @@ fn make_writable(s: &[u8], c: &mut [u8], pool: &mut [u8], place: Place) -> usize
 }
 
 // Stores the n lowest bytes of a value, n being 1, 2, 4 or 8.
-pub fn store(s: &[u8], c: &mut [u8], pool: &mut [u8], a: Address, n: usize, v: u64) -> Outcome
-    ensures value { result ≡ store_outcome s.now c.old pool.old kind_store a.0 n }
+pub fn store(
+    s: &[u8],
+    c: &mut [u8],
+    pool: &mut [u8],
+    a: Address,
+    n: usize,
+    v: u64,
+) -> Result<(), Refusal>
+    ensures value { result ≡ store_of s.now c.old pool.old kind_store a.0 n }
     ensures c_after { c.new ≡ store_control s.now c.old pool.old kind_store a.0 n }
     ensures pool_after { pool.new ≡ store_pool s.now c.old pool.old kind_store a.0 (word_bytes n v) }
 {
     let answer = translate(s, c, pool, STORE, a, n);
-    let Translation::Allowed(place) = answer else {
-        return outcome_of(answer);
+    let Ok(place) = answer else {
+        return answer.map(|_| ());
     };
     let at = make_writable(s, c, pool, place);
     write(pool, at, n, v);
-    outcome_of(answer)
+    Ok(())
 }
 
-// Stores the whole of a lent buffer, 1 to 4,096 bytes.
-pub fn store_span(s: &[u8], c: &mut [u8], pool: &mut [u8], a: Address, bytes: &[u8]) -> Outcome
-    ensures value { result ≡ store_outcome s.now c.old pool.old kind_store_span a.0 (length bytes.now) }
+// Stores the whole of a buffer, 1 to 4,096 bytes. It is compiled into both functions below.
+#[inline(always)]
+fn store_bytes(
+    s: &[u8],
+    c: &mut [u8],
+    pool: &mut [u8],
+    a: Address,
+    bytes: &[u8],
+) -> Result<(), Refusal>
+    ensures value { result ≡ store_of s.now c.old pool.old kind_store_span a.0 (length bytes.now) }
     ensures c_after { c.new ≡ store_control s.now c.old pool.old kind_store_span a.0 (length bytes.now) }
     ensures pool_after { pool.new ≡ store_pool s.now c.old pool.old kind_store_span a.0 bytes.now }
 {
     let spanned = translate(s, c, pool, STORE_SPAN, a, bytes.len());
-    let Translation::Allowed(place) = spanned else {
-        return outcome_of(spanned);
+    let Ok(place) = spanned else {
+        return spanned.map(|_| ());
     };
     let at = make_writable(s, c, pool, place);
     copy(pool, at, bytes, 0, bytes.len());
-    outcome_of(spanned)
+    Ok(())
 }
 
-// Stores a record's bytes, as `store_span` does. That has one caller and is compiled into it; with the five writes of records it would be called.
-pub fn store_record(s: &[u8], c: &mut [u8], pool: &mut [u8], a: Address, bytes: &[u8]) -> Outcome
-    ensures value { result ≡ store_outcome s.now c.old pool.old kind_store_span a.0 (length bytes.now) }
+// Stores the whole of a lent buffer, 1 to 4,096 bytes.
+pub fn store_span(
+    s: &[u8],
+    c: &mut [u8],
+    pool: &mut [u8],
+    a: Address,
+    bytes: &[u8],
+) -> Result<(), Refusal>
+    ensures value { result ≡ store_of s.now c.old pool.old kind_store_span a.0 (length bytes.now) }
     ensures c_after { c.new ≡ store_control s.now c.old pool.old kind_store_span a.0 (length bytes.now) }
     ensures pool_after { pool.new ≡ store_pool s.now c.old pool.old kind_store_span a.0 bytes.now }
 {
-    let recorded = translate(s, c, pool, STORE_SPAN, a, bytes.len());
-    let Translation::Allowed(place) = recorded else {
-        return outcome_of(recorded);
-    };
-    let start = make_writable(s, c, pool, place);
-    copy(pool, start, bytes, 0, bytes.len());
-    outcome_of(recorded)
+    store_bytes(s, c, pool, a, bytes)
+}
+
+// Stores a record's bytes, as `store_span` does. That has one caller and is compiled into it; this one is called by the writes of records.
+pub fn store_record(
+    s: &[u8],
+    c: &mut [u8],
+    pool: &mut [u8],
+    a: Address,
+    bytes: &[u8],
+) -> Result<(), Refusal>
+    ensures value { result ≡ store_of s.now c.old pool.old kind_store_span a.0 (length bytes.now) }
+    ensures c_after { c.new ≡ store_control s.now c.old pool.old kind_store_span a.0 (length bytes.now) }
+    ensures pool_after { pool.new ≡ store_pool s.now c.old pool.old kind_store_span a.0 bytes.now }
+{
+    store_bytes(s, c, pool, a, bytes)
 }

@@ -6,26 +6,18 @@ ghost use Rattle.std.specs.Prelude.{◌≡◌};
 ghost use Rattle.address.specs.Address.{type_of, index_of, offset_of, with_offset, join_of, split_of};
 
 use layout::address::{ADDRESSES, OFFSETS};
-use refusal::{DONE, Refusal};
+use refusal::Refusal;
 
 // An address: of the 48 bits, 47..40 are the segment's type, 39..24 its index, 23..0 the offset in it.
-#[derive(Clone, Copy)]
+#[derive(Clone, Copy, Debug, PartialEq, Eq)]
 pub struct Address(pub u64);
 
-// What joining gives: the address and 0, or the address 0 and the number of the refusal.
-#[derive(Clone, Copy)]
-pub struct Joined {
-    pub address: Address,
-    pub number: u8,
-}
-
-// What splitting gives: the fields and 0, or zeros and the number of the refusal.
-#[derive(Clone, Copy)]
+// The fields of an address.
+#[derive(Clone, Copy, Debug, PartialEq, Eq)]
 pub struct Fields {
     pub segment_type: u8,
     pub index: u16,
     pub offset: u32,
-    pub number: u8,
 }
 
 impl Address {
@@ -54,47 +46,35 @@ impl Address {
     pub fn with_offset(self, offset: u32) -> Address
         ensures { result.0 ≡ with_offset self.0 offset }
     {
-        Address(self.0 - self.0 % OFFSETS + (offset as u64) % OFFSETS)
+        Address(self.0 - self.0 % OFFSETS + u64::from(offset) % OFFSETS)
     }
 }
 
 // The address with these fields; an offset of 2^24 or more is refused.
 #[tactic(auto, using(crate::proofs::Laws::join_accepted, crate::proofs::Laws::join_refused))]
-pub fn join(segment_type: u8, index: u16, offset: u32) -> Joined
+pub fn join(segment_type: u8, index: u16, offset: u32) -> Result<Address, Refusal>
     ensures { result ≡ join_of segment_type index offset }
 {
-    let at = offset as u64;
+    let at = u64::from(offset);
     if at < OFFSETS {
-        let high = (segment_type as u64) * 65536 + (index as u64);
-        return Joined {
-            address: Address(high * OFFSETS + at),
-            number: DONE,
-        };
+        let high = u64::from(segment_type) * 65536 + u64::from(index);
+        return Ok(Address(high * OFFSETS + at));
     }
-    Joined {
-        address: Address(0),
-        number: refusal::number(Refusal::BadAddress),
-    }
+    Err(Refusal::BadAddress)
 }
 
 // The fields of an address; set upper bits are refused.
 #[tactic(auto, using(crate::proofs::Laws::split_accepted, crate::proofs::Laws::split_refused))]
-pub fn split(address: u64) -> Fields
+pub fn split(address: u64) -> Result<Fields, Refusal>
     ensures { result ≡ split_of address }
 {
     if address < ADDRESSES {
         let a = Address(address);
-        return Fields {
+        return Ok(Fields {
             segment_type: a.segment_type(),
             index: a.index(),
             offset: a.offset(),
-            number: DONE,
-        };
+        });
     }
-    Fields {
-        segment_type: 0,
-        index: 0,
-        offset: 0,
-        number: refusal::number(Refusal::BadAddress),
-    }
+    Err(Refusal::BadAddress)
 }

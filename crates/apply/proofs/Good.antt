@@ -1,5 +1,5 @@
 -- The tests of a change list, as facts by name. Assumes nothing.
-use Rattle.std.proofs.Common.{ℕ, suc, ◌+◌, ◌-◌, ◌*◌, ◌^◌, ◌≤◌, ◌<◌, ◌≡◌, sym, true, false, List, ⊎_elim, arith, length, get_or, eqb, leb-true, ltb-true, eqb-true, ne_eqb}
+use Rattle.std.proofs.Common.{ℕ, suc, ◌+◌, ◌-◌, ◌*◌, ◌^◌, ◌≤◌, ◌<◌, ◌≡◌, true, false, List, ⊎_elim, arith, length, get_or, eqb, leb-true, ltb-true, eqb-true, ne_eqb}
 use borrow.Author.Tests.{eqb-false, not-true}
 use Rattle.layout.specs.Page.{page_size}
 use Rattle.layout.specs.List.{list_header, change_size, change_at, pages_at, list_total}
@@ -7,7 +7,7 @@ use Rattle.words.specs.Words.{word_at}
 use Rattle.words.proofs.Word.{word_fits}
 use Rattle.choice.specs.Search.{every}
 use Rattle.choice.proofs.Every.{every_at}
-use Rattle.choice.proofs.Tests.{fails, both_true, either_true}
+use Rattle.choice.proofs.Tests.{both_true, either_true}
 use Rattle.snapshot.specs.declared.accounts.Account.{Account}
 use Rattle.pages.specs.Pages.{live_of}
 use Rattle.pages.specs.declared.Page.{Page}
@@ -39,10 +39,6 @@ layout_facts l e =
       total = eqb-true _ _ t₄.0;
       whole = leb-true _ _ t₄.1;
     }
-
--- where a fact fails, the test does
-pub layout_invalid : (l : List ℕ) → (LayoutFacts l → ⊥) → false ≡ layout_exact l
-layout_invalid l h = sym (fails (layout_exact l) (λ e. h (layout_facts l e)))
 
 -- an entry of an exact layout lies in the list
 pub change_inside : (l : List ℕ) (i : ℕ) → ((k : ℕ) → get_or l k 0 < 256) → layout_exact l ≡ true → i < list_count l

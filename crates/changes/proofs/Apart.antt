@@ -11,14 +11,14 @@ use Rattle.choice.proofs.Every.{every_at, every_all}
 use Rattle.choice.proofs.Tests.{fails}
 use Rattle.control.specs.Control.{frames}
 use Rattle.frames.specs.Table.{frame_entry_of, claims, frame_of, is_found, is_copy}
-use Rattle.frames.specs.declared.claim.Found.{Found}
-use Rattle.frames.specs.declared.claim.Found.TheVariants.{At, Nothing}
 use Rattle.frames.proofs.Entries.{EntryRange, entry_range}
 use Rattle.frames.proofs.Claims.{IsCopy, claims_copy, copy_claims, frame_found, found_frame}
 use Rattle.changes.specs.Keys.{key_account, key_page, key_claim, key_limit, is_copied, copy_keys}
 use Rattle.changes.specs.List.{frame_depth, copy_depth}
 use Rattle.changes.specs.Copies.{entry_code, code_key, code_frame, code_depth, codes_below, key_twice}
 use Rattle.changes.proofs.Codes.{entry_key, code_key_lem, code_frame_lem, code_depth_lem, code_once, CopyCode, codes_copies, copies_codes, codes_ascending}
+use Rattle.std.specs.Prelude.{None, Option, Some}
+use Rattle.pages.specs.declared.Frame.{Frame}
 
 -- of the first n entries no two copies are of one page
 abbrev pub Apart : List ℕ → ℕ → Type 0
@@ -100,7 +100,7 @@ module _ (c : List ℕ) (bytes : (k : ℕ) → get_or c k 0 < 256) where
 
   module _ (few : frames c ≤ frame_limit) (apart : Apart c (frames c)) where
     -- the frame of a copy's page is the copy's
-    entry_frame : (i : ℕ) → i < frames c → is_copy c i ≡ true → frame_of c (key_claim (entry_key c i)) ≡ At (record { 0 = i })
+    entry_frame : (i : ℕ) → i < frames c → is_copy c i ≡ true → frame_of c (key_claim (entry_key c i)) ≡ Some (record { 0 = i })
     entry_frame i l p =
         found_frame c (key_claim (entry_key c i)) i
         (record {
@@ -113,7 +113,7 @@ module _ (c : List ℕ) (bytes : (k : ℕ) → get_or c k 0 < 256) where
         })
 
     -- the frame of a code's page is the code's
-    pub code_found : (x : ℕ) → Member x (codes_below c (frames c)) → frame_of c (key_claim (code_key x)) ≡ At (record { 0 = code_frame x })
+    pub code_found : (x : ℕ) → Member x (codes_below c (frames c)) → frame_of c (key_claim (code_key x)) ≡ Some (record { 0 = code_frame x })
     code_found x m =
         let u : CopyCode c (frames c) x = codes_copies c (frames c) x m in
         let l : u.frame < frame_limit = omega (arith, u.below) in
@@ -145,9 +145,9 @@ module _ (c : List ℕ) (bytes : (k : ℕ) → get_or c k 0 < 256) where
     unfolding copy_keys is_copied
     copied_key z m = look (frame_of c (key_claim z)) refl (picked-passes (is_copied c) 0 key_limit z m).2
       where
-        look : (f : Found) → frame_of c (key_claim z) ≡ f → is_found f ≡ true → Member z (map code_key (codes_below c (frames c)))
-        look Nothing e t = let w : ◌≡◌ {A = ℕ} 0 1 = cc in absurd (omega arith)
-        look (At f) e t =
+        look : (f : Option Frame) → frame_of c (key_claim z) ≡ f → is_found f ≡ true → Member z (map code_key (codes_below c (frames c)))
+        look None e t = let w : ◌≡◌ {A = ℕ} 0 1 = cc in absurd (omega arith)
+        look (Some f) e t =
             let g = frame_found c (key_claim z) f e in
             let k = claims_key f.0 z g.passes in
             let u : code_key (entry_code c f.0) ≡ z = code_key_lem c bytes f.0 (omega (arith, g.below)) ∙ k.1 in

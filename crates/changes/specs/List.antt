@@ -1,22 +1,20 @@
 -- Document 01, "Change list and page view", with document 02, "Eight": the change list. Assumes nothing.
-use Rattle.std.specs.Prelude.{ℕ, Bool, not, List, [], ◌∷◌, ◌++◌, length, nat_le}
+use Rattle.std.specs.Prelude.{ℕ, Bool, not, List, [], ◌∷◌, ◌++◌, length, nat_le, None, Option, Some}
 use Rattle.layout.specs.List.{list_header, pages_at, list_total}
 use Rattle.layout.specs.Page.{page_size}
 use Rattle.words.specs.Words.{word_bytes, bytes_at, splice}
 use Rattle.choice.specs.Search.{every}
 use Rattle.choice.specs.Choice.{both, either}
-use Rattle.refusal.specs.Checks.{need, ◌then◌, check_number, or_keep}
-use Rattle.refusal.specs.declared.Check.{Check}
+use Rattle.refusal.specs.Checks.{need, ◌then◌, check_number, or_keep, Check}
 use Rattle.refusal.specs.declared.Refusal.TheVariants.{Invalid, ShortOutput}
 use Rattle.control.specs.Control.{frames, buffers_valid}
 use Rattle.pages.specs.Pages.{frame_start, live, page_there}
 use Rattle.frames.specs.Table.{frame_entry_of, claims, frame_of, is_copy}
 use Rattle.frames.specs.declared.claim.Claim.TheVariants.{Copy}
-use Rattle.frames.specs.declared.claim.Found.{Found}
-use Rattle.frames.specs.declared.claim.Found.TheVariants.{At, Nothing}
 use Rattle.changes.specs.Entry.{change_bytes, change_of}
 use Rattle.changes.specs.Keys.{key_account, key_page, key_claim, copy_keys}
 use Rattle.changes.specs.declared.entry.Change.{Change}
+use Rattle.pages.specs.declared.Frame.{Frame}
 
 -- "Header of four u32: count n, 16," where the pages begin, total
 unfoldable pub list_header_bytes : ℕ → List ℕ
@@ -36,18 +34,18 @@ unfoldable pub list_bytes : (ℕ → Change) → (ℕ → List ℕ) → List ℕ
 list_bytes entry page ks = list_header_bytes (length ks) ++ (joined (λ k. change_bytes (entry k)) ks ++ joined page ks)
 
 -- the frame's bytes, from its start on
-abbrev pub frame_bytes : List ℕ → Found → List ℕ
-frame_bytes p (At f) = bytes_at page_size p (frame_start f)
-frame_bytes p Nothing = []
+abbrev pub frame_bytes : List ℕ → Option Frame → List ℕ
+frame_bytes p (Some f) = bytes_at page_size p (frame_start f)
+frame_bytes p None = []
 
 -- "each the frame's live bytes and then zeros"
 unfoldable pub page_bytes : List ℕ → List ℕ → List ℕ → ℕ → List ℕ
 page_bytes s c p k = padded (live s (key_account k) (key_page k)) (frame_bytes p (frame_of c (key_claim k)))
 
 -- the depth that a frame's entry holds
-abbrev pub frame_depth : List ℕ → Found → ℕ
-frame_depth c (At f) = (frame_entry_of c f.0).depth
-frame_depth c Nothing = 0
+abbrev pub frame_depth : List ℕ → Option Frame → ℕ
+frame_depth c (Some f) = (frame_entry_of c f.0).depth
+frame_depth c None = 0
 
 -- "then that u16": the depth that the entry of the page's copy holds
 unfoldable pub copy_depth : List ℕ → ℕ → ℕ

@@ -2,6 +2,7 @@
 ghost use Rattle.std.specs.Prelude.{◌≡◌, ◌+◌, ◌≤◌, ◌<◌, ◌^◌, length};
 ghost use Rattle.layout.specs.List.{change_at, change_size};
 ghost use Rattle.words.specs.Words.{splice};
+ghost use Rattle.changes.specs.Keys.{key_of};
 ghost use Rattle.changes.specs.Entry.{change_bytes, change_in};
 
 use layout::list::change_at;
@@ -19,39 +20,38 @@ pub struct Change {
     pub zero: u16,
 }
 
-// Entry i of a list.
-pub fn read_change(l: &[u8], i: usize) -> Change
-    requires { (i < 2 ^ 32) × (change_at i + change_size ≤ length l.now) }
-    ensures { result ≡ change_in l.now i }
-{
-    let at = change_at(i);
-    Change {
-        account: Account(u16_at(l, at)),
-        page: Page(u16_at(l, at + 2)),
-        live: u32_at(l, at + 4),
-        depth: u16_at(l, at + 8),
-        zero: u16_at(l, at + 10),
+impl Change {
+    // Entry i of a list.
+    pub fn read(l: &[u8], i: usize) -> Change
+        requires { (i < 2 ^ 32) × (change_at i + change_size ≤ length l.now) }
+        ensures { result ≡ change_in l.now i }
+    {
+        let at = change_at(i);
+        Change {
+            account: Account(u16_at(l, at)),
+            page: Page(u16_at(l, at + 2)),
+            live: u32_at(l, at + 4),
+            depth: u16_at(l, at + 8),
+            zero: u16_at(l, at + 10),
+        }
     }
-}
 
-// Writes entry i of a list, in two stores.
-pub fn put_change(out: &mut [u8], i: usize, e: Change)
-    requires { (i < 2 ^ 32) × (change_at i + change_size ≤ length out.old) × (e.live < 2 ^ 32) }
-    ensures { out.new ≡ splice out.old (change_at i) (change_bytes e) }
-{
-    let account = e.account;
-    let page = e.page;
-    let start = change_at(i);
-    write(
-        out,
-        start,
-        8,
-        (account.0 as u64) + 65536 * (page.0 as u64) + 4294967296 * (e.live as u64),
-    );
-    write(
-        out,
-        start + 8,
-        4,
-        (e.depth as u64) + 65536 * (e.zero as u64),
-    );
+    // The account and the page as one number, in whose order they ascend.
+    pub fn key(self) -> u64
+        ensures { result ≡ key_of self.account.0 self.page.0 }
+    {
+        65536 * u64::from(self.account.0) + u64::from(self.page.0)
+    }
+
+    // Writes entry i of a list, in two stores.
+    pub fn put(self, out: &mut [u8], i: usize)
+        requires { (i < 2 ^ 32) × (change_at i + change_size ≤ length out.old) × (self.live < 2 ^ 32) }
+        ensures { out.new ≡ splice out.old (change_at i) (change_bytes self) }
+    {
+        let start = change_at(i);
+        let page = u64::from(self.account.0) + 65536 * u64::from(self.page.0);
+        write(out, start, 8, page + 4294967296 * (self.live as u64));
+        let depth = u64::from(self.depth) + 65536 * u64::from(self.zero);
+        write(out, start + 8, 4, depth);
+    }
 }

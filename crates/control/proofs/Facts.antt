@@ -1,9 +1,9 @@
 -- The tests of the control block and of the three buffers, as facts by name, and back. Assumes nothing.
-use Rattle.std.proofs.Common.{ℕ, ◌≤◌, ◌<◌, ◌≡◌, sym, ap, ◌∙◌, Bool, true, false, List, length, leb-true, eqb-true, ltb-true, le-leb, eq-eqb, lt-ltb}
+use Rattle.std.proofs.Common.{ℕ, ◌≤◌, ◌<◌, ◌≡◌, ap, ◌∙◌, Bool, true, List, length, leb-true, eqb-true, ltb-true, le-leb, eq-eqb, lt-ltb}
 use Rattle.layout.specs.Page.{page_limit, pool_length}
 use Rattle.layout.specs.Control.{reserved_at, shadow_at, table_at, frame_limit, live_limit, control_length}
 use Rattle.words.specs.Words.{word_at}
-use Rattle.choice.proofs.Tests.{fails, both_true}
+use Rattle.choice.proofs.Tests.{both_true}
 use Rattle.snapshot.specs.Header.{header_of, accounts, snapshot_valid}
 use Rattle.snapshot.specs.declared.header.Header.{Header}
 use Rattle.control.specs.Control.{frames, invocations, edition, edition_known, current, control_valid, current_valid, control_ready, buffers_valid}
@@ -51,10 +51,6 @@ module _ (c : List ℕ) where
   control_valid_lem f =
       rw (le-leb _ _ f.header, le-leb _ _ f.few_frames, le-leb _ _ f.some_live, le-leb _ _ f.few_live, eq-eqb _ _ f.shadow_at_is, eq-eqb _ _ f.table_at_is, f.edition, eq-eqb _ _ f.reserved, eq-eqb _ _ f.size)
 
-  -- where a fact fails, the test does
-  pub control_invalid : (ControlFacts c → ⊥) → false ≡ control_valid c
-  control_invalid h = sym (fails (control_valid c) (λ e. h (control_facts e)))
-
 -- ---- the current invocation
 
 -- what a valid current invocation keeps, where there are n accounts
@@ -96,10 +92,6 @@ module _ (s c p : List ℕ) where
   pub buffers_valid_lem : BuffersFacts s c p → buffers_valid s c p ≡ true
   unfolding buffers_valid control_ready
   buffers_valid_lem f = rw (f.snapshot, f.control, eq-eqb _ _ f.pool, f.current)
-
-  -- where a fact fails, the test does
-  pub buffers_invalid : (BuffersFacts s c p → ⊥) → false ≡ buffers_valid s c p
-  buffers_invalid h = sym (fails (buffers_valid s c p) (λ e. h (buffers_facts e)))
 
   -- where the snapshot is valid, its control block and pool decide
   pub ready_decides : {h : Header} {r : Bool} → snapshot_valid s ≡ true → h ≡ header_of s → r ≡ control_ready c p h.accounts

@@ -8,40 +8,29 @@ use layout::page::{PAGE, REGION};
 use snapshot::header::whole_header;
 
 // Whether the current invocation names a program below the account count and has at most the most pages of each region.
+#[tactic(auto, using(crate::proofs::Facts::control_facts), unfolding(crate::specs::Control::current_valid))]
 pub fn current_valid(c: &[u8], accounts: usize) -> bool
     requires { control_valid c.now ≡ true }
     ensures { result ≡ current_valid c.now accounts }
 {
     let i = invocation_at(c, invocation_count(c));
-    if accounts <= i.program.0 as usize {
-        return false;
-    }
-    if REGION < i.stack as usize {
-        return false;
-    }
-    i.heap as usize <= REGION
+    usize::from(i.program.0) < accounts
+        && usize::from(i.stack) <= REGION
+        && usize::from(i.heap) <= REGION
 }
 
 // Whether the control block, the pool's length and the current invocation keep their rules, with so many accounts.
+#[tactic(auto, using(crate::proofs::Facts::control_facts), unfolding(crate::specs::Control::control_ready))]
 pub fn control_ready(c: &[u8], pool: &[u8], accounts: usize) -> bool
     ensures { result ≡ control_ready c.now pool.now accounts }
 {
-    if valid(c) {
-        if pool.len() != PAGE * frame_count(c) {
-            return false;
-        }
-        return current_valid(c, accounts);
-    }
-    false
+    valid(c) && pool.len() == PAGE * frame_count(c) && current_valid(c, accounts)
 }
 
 // Whether headers, buffer lengths and the current invocation keep their rules.
+#[tactic(auto, using(snapshot::proofs::Facts::snapshot_facts), unfolding(crate::specs::Control::buffers_valid))]
 pub fn buffers_valid(s: &[u8], c: &[u8], pool: &[u8]) -> bool
     ensures { result ≡ buffers_valid s.now c.now pool.now }
 {
-    if snapshot::header::valid(s) {
-        let h = whole_header(s);
-        return control_ready(c, pool, h.accounts);
-    }
-    false
+    snapshot::header::valid(s) && control_ready(c, pool, whole_header(s).accounts)
 }

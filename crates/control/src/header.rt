@@ -8,7 +8,7 @@ ghost use Rattle.control.specs.Control.{frames, invocations, edition, edition_kn
 use layout::control::{
     EDITION_AT, FRAME_ENTRY, FRAMES, INVOCATIONS, NEWER, OLDER, SHADOW_AT, TABLE_AT,
 };
-use words::numbers::{u32_at, write};
+use words::numbers::{u32_at, u64_at, write};
 
 // How many frames the pool has.
 pub fn frame_count(c: &[u8]) -> usize
@@ -35,16 +35,15 @@ pub fn edition_of(c: &[u8]) -> usize
 }
 
 // Whether there is such an edition.
+#[tactic(auto, unfolding(crate::specs::Control::edition_known))]
 pub fn is_edition(e: usize) -> bool
     ensures { result ≡ edition_known e }
 {
-    if e == OLDER {
-        return true;
-    }
-    e == NEWER
+    e == OLDER || e == NEWER
 }
 
 // Writes how many invocations are live.
+#[tactic(auto, unfolding(crate::specs::Control::set_invocations))]
 pub fn set_invocations(c: &mut [u8], d: usize)
     requires { table_at ≤ length c.old }
     ensures { c.new ≡ set_invocations c.old d }
@@ -57,11 +56,12 @@ fn edition_valid(c: &[u8]) -> bool
     requires { table_at ≤ length c.now }
     ensures { result ≡ both (edition_known (edition c.now)) (nat_eq (word_at 4 c.now reserved_at) 0) }
 {
-    is_edition(u32_at(c, EDITION_AT) + 4294967296 * u32_at(c, EDITION_AT + 4))
+    is_edition(u64_at(c, EDITION_AT) as usize)
 }
 
 // Whether the header keeps its rules and the length is the one that the frame count gives. The limit is asked of the length: a compiler that knows
 // the limit of the frame count reads it in two halves. The two offsets are one number, so that one load and one test decide.
+#[tactic(auto, unfolding(crate::specs::Control::control_valid))]
 pub fn valid(c: &[u8]) -> bool
     ensures { result ≡ control_valid c.now }
 {
@@ -69,21 +69,9 @@ pub fn valid(c: &[u8]) -> bool
         return false;
     }
     let table = c.len() - TABLE_AT;
-    if FRAME_ENTRY * FRAMES < table {
-        return false;
-    }
-    if table != FRAME_ENTRY * u32_at(c, 0) {
-        return false;
-    }
-    let d = u32_at(c, 4);
-    if d < 1 {
-        return false;
-    }
-    if INVOCATIONS < d {
-        return false;
-    }
-    if u32_at(c, 8) + 4294967296 * u32_at(c, 12) != SHADOW_AT + 4294967296 * TABLE_AT {
-        return false;
-    }
-    edition_valid(c)
+    table <= FRAME_ENTRY * FRAMES
+        && table == FRAME_ENTRY * u32_at(c, 0)
+        && matches!(u32_at(c, 4), 1..=INVOCATIONS)
+        && u32_at(c, 8) + 4294967296 * u32_at(c, 12) == SHADOW_AT + 4294967296 * TABLE_AT
+        && edition_valid(c)
 }

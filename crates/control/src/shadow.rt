@@ -10,14 +10,26 @@ use words::numbers::{u16_at, write};
 use words::runs::{clear, copy};
 
 // One of the two regions of anonymous pages.
-#[derive(Clone, Copy)]
+#[derive(Clone, Copy, PartialEq, Eq, Debug)]
 pub enum Region {
     Stack,
     Heap,
 }
 
+impl Region {
+    // Where its size stands in a record.
+    fn size_at(self) -> usize
+        ensures { (result ≡ region_at self) × (result ≤ heap_at) }
+    {
+        match self {
+            Region::Stack => STACK_AT,
+            Region::Heap => HEAP_AT,
+        }
+    }
+}
+
 // What a shadow record says of its invocation, but for the registers.
-#[derive(Clone, Copy)]
+#[derive(Clone, Copy, PartialEq, Eq, Debug)]
 pub struct Invocation {
     pub program: Account,
     pub stack: u16,
@@ -44,17 +56,8 @@ fn record_at(k: usize) -> usize
     SHADOW_AT + SHADOW * k
 }
 
-// Where a region's size stands in a record.
-fn region_at(r: Region) -> usize
-    ensures { (result ≡ region_at r) × (result ≤ heap_at) }
-{
-    match r {
-        Region::Stack => STACK_AT,
-        Region::Heap => HEAP_AT,
-    }
-}
-
 // Record k's program and sizes.
+#[tactic(auto, unfolding(crate::specs::Control::invocation_of))]
 pub fn invocation_at(c: &[u8], k: usize) -> Invocation
     requires { (k ≤ live_limit) × (table_at ≤ length c.now) }
     ensures { result ≡ invocation_of c.now k }
@@ -75,18 +78,22 @@ pub fn read_registers(c: &[u8], k: usize, out: &mut [u8])
     copy(out, 0, c, record_at(k) + REGISTERS_AT, REGISTERS);
 }
 
-// Writes record k whole: the program, the sizes, two zero bytes, the registers.
+// Writes record k whole: the program, the sizes, two zero bytes, the registers. What stands before the registers goes as one number, which is one
+// store.
 pub fn put_invocation(c: &mut [u8], k: usize, i: Invocation, registers: &[u8])
     requires { (k ≤ live_limit) × (table_at ≤ length c.old) × (length registers.now ≡ registers_size) }
     ensures { c.new ≡ put_invocation c.old k i registers.now }
 {
     let at = record_at(k);
-    let fields = (i.program.0 as u64) + 65536 * (i.stack as u64) + 4294967296 * (i.heap as u64);
+    let fields = u64::from(i.program.0)
+        + 65536 * u64::from(i.stack)
+        + 4294967296 * u64::from(i.heap);
     write(c, at, 8, fields);
     copy(c, at + REGISTERS_AT, registers, 0, REGISTERS);
 }
 
 // Writes zeros over record k.
+#[tactic(auto, unfolding(crate::specs::Control::clear_invocation))]
 pub fn clear_invocation(c: &mut [u8], k: usize)
     requires { (k ≤ live_limit) × (table_at ≤ length c.old) }
     ensures { c.new ≡ clear_invocation c.old k }
@@ -95,9 +102,10 @@ pub fn clear_invocation(c: &mut [u8], k: usize)
 }
 
 // Writes the size of a region in record k.
+#[tactic(auto, unfolding(crate::specs::Control::set_pages))]
 pub fn set_pages(c: &mut [u8], k: usize, r: Region, pages: u16)
     requires { (k ≤ live_limit) × (table_at ≤ length c.old) }
     ensures { c.new ≡ set_pages c.old k r pages }
 {
-    write(c, record_at(k) + region_at(r), 2, pages as u64);
+    write(c, record_at(k) + r.size_at(), 2, u64::from(pages));
 }

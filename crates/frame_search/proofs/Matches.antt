@@ -1,11 +1,11 @@
--- The laws of entries whose bits are wanted: a match leaves no difference, and what matches under the masks of the four searches is
+-- The laws of entries whose bits are wanted: what matches under the masks of the four searches is
 -- what claims or is used so. Assumes nothing.
-use Rattle.std.proofs.Common.{◌≡◌, ℕ, ◌+◌, ◌*◌, ◌/◌, ◌%◌, ◌^◌, ◌<◌, ◌≤◌, Bool, true, false, eqb, List, get_or, sym, refl, ap, ◌∙◌, arith, eq-eqb, ne_eqb, eqb-true, bit_and, bit_or, bit_xor}
-use Rattle.std.proofs.Math.Decide.{ℕ_discrete}
-use lib.Bits.{and_le_l, and_le_r, and_mask, and_block, or_add_and, or_mod, xor_self}
+use Rattle.std.proofs.Common.{◌≡◌, ℕ, ◌+◌, ◌*◌, ◌/◌, ◌%◌, ◌^◌, ◌<◌, ◌≤◌, Bool, true, false, eqb, List, get_or, sym, refl, ap, ◌∙◌, arith, eq-eqb, ne_eqb, eqb-true, bit_and, bit_or}
+use lib.Bits.{and_le_l, and_le_r, and_mask, and_block, or_add_and, or_mod}
 use Rattle.words.specs.Words.{word_at}
 use Rattle.words.proofs.Word.{word_append, word_fits}
-use Rattle.choice.proofs.Tests.{by_test, differ}
+use borrow.Author.Tests.{eqb-false}
+use Rattle.choice.proofs.Tests.{by_test, differ, fails}
 use Rattle.snapshot.specs.declared.accounts.Account.{Account}
 use Rattle.control.specs.declared.shadow.Region.{Region}
 use Rattle.control.specs.declared.shadow.Region.TheVariants.{Stack, Heap}
@@ -15,43 +15,30 @@ use Rattle.frames.specs.Table.{frame_entry_at, frame_entry_of, frame_field, usag
 use Rattle.frames.specs.declared.claim.Claim.TheVariants.{Copy, Anonymous}
 use Rattle.frames.proofs.Fields.{field_is, byte_is}
 use Rattle.frames.proofs.Claims.{claims_copy, copy_claims, claims_page, page_claims}
-use Rattle.frame_search.specs.Match.{matches, NoneOf, usage_bits, copy_bits, copy_of, page_bits}
+use Rattle.frame_search.specs.Match.{matches, usage_bits, copy_bits, copy_of, page_bits}
 
 -- ---- a group asked at once
 
 -- an or is at least each of its parts
-pub or_parts : (a b : ℕ) → (a ≤ bit_or a b) × (b ≤ bit_or a b)
+or_parts : (a b : ℕ) → (a ≤ bit_or a b) × (b ≤ bit_or a b)
 or_parts a b = (omega (arith, or_add_and a b, and_le_r a b), omega (arith, or_add_and a b, and_le_l a b))
 
 -- where an or lacks the second bit, each of its parts does
 pub or_second : (a b : ℕ) → bit_or a b % 4 < 2 → (a % 4 < 2) × (b % 4 < 2)
 or_second a b h = let p = or_parts (a % 4) (b % 4) in (omega (arith, or_mod a b 2, p.0), omega (arith, or_mod a b 2, p.1))
 
--- none of the k entries from i on matches, nor does the next
-pub none_more : (f : ℕ → Bool) (i k : ℕ) → NoneOf f i k → f (i + k) ≡ false → NoneOf f i (k + 1)
-none_more f i k h q j l m = elim (ℕ_discrete j (i + k)) [ yes p ↦ rw p q | no p ↦ h j l (omega arith) ]
-
 -- ---- an entry looked at alone
 
 module _ (c : List ℕ) (mask wanted i word : ℕ) (e : word ≡ word_at 8 c (frame_entry_at i)) where
   -- its bits are those wanted: it matches
-  pub match_is : bit_and word mask ≡ wanted → matches c mask wanted i ≡ true
+  match_is : bit_and word mask ≡ wanted → matches c mask wanted i ≡ true
   unfolding matches
   match_is h = rw (← e) (eq-eqb _ _ h)
 
   -- they are not: it does not
-  pub match_fails : (bit_and word mask ≡ wanted → ⊥) → matches c mask wanted i ≡ false
+  match_fails : (bit_and word mask ≡ wanted → ⊥) → matches c mask wanted i ≡ false
   unfolding matches
   match_fails h = rw (← e) (ne_eqb _ _ h)
-
-  -- one that matches leaves no difference, so that 1 less has the top bit
-  pub match_top : (less : ℕ) → less < 2 ^ 64 → (less + 1) % 2 ^ 64 ≡ bit_xor (bit_and word mask) wanted → matches c mask wanted i ≡ true
-      → 9223372036854775808 ≤ less
-  unfolding matches
-  match_top less l d m =
-      let s : bit_and word mask ≡ wanted = rw e (eqb-true _ _ m) in
-      let z : (less + 1) % 2 ^ 64 ≡ 0 = d ∙ rw s (xor_self wanted) in
-      omega arith
 
 -- ---- what matches under a mask
 
@@ -181,15 +168,25 @@ module _ (c : List ℕ) (i : ℕ) (b : (j : ℕ) → get_or c j 0 < 256) where
       omega (arith, word_append 1 7 c at, usage_first, usage_second q)
 
   -- an entry that has a copy's use byte and the key is a copy with the key
-  pub keyed_is : (key : ℕ) → get_or c at 0 ≡ usage_copy → word_at 4 c (at + 2) ≡ key → copy_of c key i ≡ true
+  keyed_is : (key : ℕ) → get_or c at 0 ≡ usage_copy → word_at 4 c (at + 2) ≡ key → copy_of c key i ≡ true
   keyed_is key u k =
       match_is c copy_bits (usage_copy + 65536 * key) i _ refl
       (copy_mask (word_at 8 c at) ∙ omega (arith, lowest_byte, key_above, byte_is 0 c i at (omega arith)))
 
   -- and a copy with the key has both
-  pub keyed_has : (key : ℕ) → copy_of c key i ≡ true → (get_or c at 0 ≡ usage_copy) × (word_at 4 c (at + 2) ≡ key)
+  keyed_has : (key : ℕ) → copy_of c key i ≡ true → (get_or c at 0 ≡ usage_copy) × (word_at 4 c (at + 2) ≡ key)
   unfolding matches
   keyed_has key t =
       let e = eqb-true (bit_and (word_at 8 c at) copy_bits) (usage_copy + 65536 * key) t in
       let m = copy_mask (word_at 8 c at) in
       (omega (arith, e, m, lowest_byte, byte_is 0 c i at (omega arith)), omega (arith, e, m, key_above))
+
+  -- where the key is an entry's, a copy's use byte makes it a copy with the key
+  pub keyed_if : (key : ℕ) → word_at 4 c (at + 2) ≡ key → eqb (get_or c at 0) usage_copy ≡ copy_of c key i
+  keyed_if key k =
+      by_test (eqb (get_or c at 0) usage_copy) (λ t. t ∙ sym (keyed_is key (eqb-true _ _ t) k))
+      (λ t. t ∙ sym (fails (copy_of c key i) (λ m. eqb-false _ _ t (keyed_has key m).0)))
+
+  -- an entry with another key is none
+  pub keyed_not : (key : ℕ) → (word_at 4 c (at + 2) ≡ key → ⊥) → false ≡ copy_of c key i
+  keyed_not key h = sym (fails (copy_of c key i) (λ m. h (keyed_has key m).1))

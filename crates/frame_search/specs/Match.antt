@@ -54,8 +54,3 @@ entry_from Highest k n = below n k
 abbrev pub group_end : End → ℕ → ℕ → ℕ
 group_end Lowest k n = k + group_size
 group_end Highest k n = n - k
-
--- how many entries further up the next group is, from that end
-abbrev pub group_up : End → ℕ
-group_up Lowest = group_size
-group_up Highest = 0

@@ -15,15 +15,13 @@ pub fn wanted_after(c: &[u8], from: usize, to: usize, n: usize) -> usize
     ensures { result ≡ n - (count (is_free c.now) to - count (is_free c.now) from) }
 {
     let mut left = n;
-    let mut i = from;
-    while i < to {
+    for i in from..to {
         if left == 0 {
             return left;
         }
         if usage_at(c, i) == FREE {
             left -= 1;
         }
-        i += 1;
     }
     left
 }
@@ -34,12 +32,8 @@ fn free_in_group(c: &[u8], i: usize) -> usize
     ensures { count (is_free c.now) (i + group_size) ≡ count (is_free c.now) i + result }
 {
     let mut n = 0;
-    let mut k = 0;
-    while k < GROUP {
-        if usage_at(c, i + k) == FREE {
-            n += 1;
-        }
-        k += 1;
+    for k in 0..GROUP {
+        n += usize::from(usage_at(c, i + k) == FREE);
     }
     n
 }
@@ -50,14 +44,13 @@ pub fn wanted_by_groups(c: &[u8], from: usize, frames: usize, n: usize) -> usize
     ensures { result ≡ n - (count (is_free c.now) frames - count (is_free c.now) from) }
 {
     let mut left = n;
-    let mut i = from;
-    while i + GROUP <= frames {
-        let found = free_in_group(c, i);
+    let groups = (frames - from) / GROUP;
+    for g in 0..groups {
+        let found = free_in_group(c, from + GROUP * g);
         if left <= found {
             return 0;
         }
         left -= found;
-        i += GROUP;
     }
-    wanted_after(c, i, frames, left)
+    wanted_after(c, from + GROUP * groups, frames, left)
 }

@@ -10,25 +10,26 @@ ghost use Rattle.frame_search.specs.Match.{group_size, NoneOf, from_end, entry_f
 
 use super::counting::{wanted_after, wanted_by_groups};
 use super::keyed::lowest_keyed;
-use super::search::{GROUP, first_few, nearest_match};
+use super::search::{GROUP, entry_bits, first_few, nearest_match};
 use control::header::frame_count;
 use control::shadow::Region;
-use frames::claim::{Claim, End, Found, usage_of};
+use frames::claim::{Claim, End, usage_of};
 use frames::table::usage_at;
-use layout::control::{COPY, FRAME_ENTRY, FREE, TABLE_AT};
+use layout::control::{COPY, FREE};
 use pages::{Frame, Page};
 use snapshot::accounts::Account;
-use words::numbers::u64_at;
 
 // An index below the bound as the frame that was found, the bound as none.
-fn as_found(i: usize, frames: usize) -> Found
+#[tactic(auto, unfolding(frames::specs::Table::found_in))]
+fn as_found(i: usize, frames: usize) -> Option<Frame>
     requires { frames ≤ frame_limit }
     ensures { result ≡ found_in frames i }
 {
     if i < frames {
-        return Found::At(Frame(i as u16));
+        Some(Frame(i as u16))
+    } else {
+        None
     }
-    Found::Nothing
 }
 
 // The bits of an entry's use byte.
@@ -42,7 +43,7 @@ pub fn lowest_copy(c: &[u8], frames: usize, a: Account, p: Page) -> usize
     requires { (frames ≤ frame_limit) × (control_length frames ≤ length c.now) }
     ensures { result ≡ lowest (claims c.now (Copy a p)) frames }
 {
-    lowest_keyed(c, frames, (a.0 as u32) + 65536 * (p.0 as u32))
+    lowest_keyed(c, frames, u32::from(a.0) + 65536 * u32::from(p.0))
 }
 
 // The lowest entry that holds the region's page, the frame count where none does.
@@ -50,12 +51,13 @@ pub fn lowest_page(c: &[u8], frames: usize, r: Region, p: Page) -> usize
     requires { (frames ≤ frame_limit) × (control_length frames ≤ length c.now) }
     ensures { result ≡ lowest (claims c.now (Anonymous r p)) frames }
 {
-    let wanted = (usage_of(r) as u64) + 4294967296 * (p.0 as u64);
+    let wanted = u64::from(usage_of(r)) + 4294967296 * u64::from(p.0);
     nearest_match(c, End::Lowest, 0, frames, PAGE_BITS, wanted)
 }
 
 // The frame of a page: the lowest entry that claims it. The search stops there.
-pub fn frame_of(c: &[u8], q: Claim) -> Found
+#[tactic(auto, using(control::proofs::Facts::control_facts), unfolding(frames::specs::Table::frame_of))]
+pub fn frame_of(c: &[u8], q: Claim) -> Option<Frame>
     requires { control_valid c.now ≡ true }
     ensures { result ≡ frame_of c.now q }
 {
@@ -71,7 +73,7 @@ pub fn next_free(c: &[u8], end: End, from: usize, frames: usize) -> usize
     requires { (frames ≤ frame_limit) × (from ≤ frames) × (control_length frames ≤ length c.now) }
     ensures { result ≡ seek (from_end end (is_free c.now) frames) from (frames - from) }
 {
-    nearest_match(c, end, from, frames, USAGE_BITS, FREE as u64)
+    nearest_match(c, end, from, frames, USAGE_BITS, u64::from(FREE))
 }
 
 // The lowest copy from `from` on; the frame count where none is. Copies mostly stand one behind the other, so the first entry is looked at before
@@ -80,12 +82,10 @@ pub fn next_copy(c: &[u8], from: usize, frames: usize) -> usize
     requires { (frames ≤ frame_limit) × (from ≤ frames) × (control_length frames ≤ length c.now) }
     ensures { result ≡ seek (is_copy c.now) from (frames - from) }
 {
-    if from < frames {
-        if usage_at(c, from) == COPY {
-            return from;
-        }
+    if from < frames && usage_at(c, from) == COPY {
+        return from;
     }
-    nearest_match(c, End::Lowest, from, frames, USAGE_BITS, COPY as u64)
+    nearest_match(c, End::Lowest, from, frames, USAGE_BITS, u64::from(COPY))
 }
 
 // Whether one of the entries of a group, from i on, may be a region's. Stack and heap have the second bit of the use byte, free and copy do not;
@@ -94,13 +94,7 @@ pub fn group_may_hold_regions(c: &[u8], i: usize) -> bool
     requires { (i + group_size ≤ frame_limit) × (frame_entry_at (i + group_size) ≤ length c.now) }
     ensures { result ≡ false → (q : Region) → NoneOf (λ j. nat_eq (frame_entry_of c.now j).usage (usage_of q)) i group_size }
 {
-    let mut any = 0;
-    let mut k = 0;
-    while k < GROUP {
-        any = any | u64_at(c, TABLE_AT + FRAME_ENTRY * (i + k));
-        k += 1;
-    }
-    2 <= any % 4
+    2 <= (0..GROUP).fold(0, |any, k| any | entry_bits(c, i + k)) % 4
 }
 
 // The entry that is so far from that end of the table; the frame count where that is how far.
@@ -109,17 +103,14 @@ fn entry_from(end: End, k: usize, frames: usize) -> usize
 {
     match end {
         End::Lowest => k,
-        End::Highest => {
-            if k < frames {
-                return frames - (k + 1);
-            }
-            frames
-        }
+        End::Highest if k < frames => frames - (k + 1),
+        End::Highest => frames,
     }
 }
 
 // The free frame that is handed out next: the lowest or the highest.
-pub fn free_frame(c: &[u8], end: End) -> Found
+#[tactic(auto, using(control::proofs::Facts::control_facts))]
+pub fn free_frame(c: &[u8], end: End) -> Option<Frame>
     requires { control_valid c.now ≡ true }
     ensures { result ≡ free_frame end c.now }
 {
@@ -129,6 +120,7 @@ pub fn free_frame(c: &[u8], end: End) -> Found
 }
 
 // Whether at least n frames are free. The count stops once they are found.
+#[tactic(auto, using(control::proofs::Facts::control_facts))]
 pub fn has_free(c: &[u8], n: usize) -> bool
     requires { control_valid c.now ≡ true }
     ensures { result ≡ nat_le n (free_count c.now) }

@@ -7,10 +7,10 @@ ghost use Rattle.words.specs.Words.{word_at};
 ghost use Rattle.frames.specs.Table.{frame_entry_at, entry_end};
 ghost use Rattle.frame_search.specs.Match.{group_size, first_keyed, NoneOf, copy_of};
 
-use super::search::{GROUP, by_groups, one_by_one};
+use super::search::{GROUP, by_groups, entry_bits, one_by_one};
 use frames::claim::End;
 use layout::control::{COPY, FRAME_ENTRY, TABLE_AT};
-use words::numbers::{u32_at, u64_at};
+use words::numbers::u32_at;
 
 // The bits of an entry's use byte, account and page.
 const COPY_BITS: u64 = 255 + 65536 * 4294967295;
@@ -23,7 +23,7 @@ fn key_at(c: &[u8], i: usize) -> u32
     requires { (i < frame_limit) × (entry_end i ≤ length c.now) }
     ensures { result ≡ word_at 8 c.now (frame_entry_at i) / 65536 % 4294967296 }
 {
-    (u64_at(c, TABLE_AT + FRAME_ENTRY * i) / 65536 % 4294967296) as u32
+    (entry_bits(c, i) / 65536 % 4294967296) as u32
 }
 
 // Whether one of the entries of a group, from i on, has the key. All are compared and none ends the loop, so that it is compiled to vector
@@ -32,13 +32,16 @@ fn group_has_key(c: &[u8], i: usize, key: u32) -> bool
     requires { (i + group_size ≤ frame_limit) × (frame_entry_at (i + group_size) ≤ length c.now) }
     ensures { result ≡ false → NoneOf (copy_of c.now key) i group_size }
 {
-    let mut any = false;
-    let mut k = 0;
-    while k < GROUP {
-        any = any | (key_at(c, i + k) == key);
-        k += 1;
-    }
-    any
+    (0..GROUP).fold(false, |any, k| any | (key_at(c, i + k) == key))
+}
+
+// Whether entry i is a copy with the key.
+fn is_copy_of(c: &[u8], i: usize, key: u32) -> bool
+    requires { (i < frame_limit) × (entry_end i ≤ length c.now) }
+    ensures { result ≡ copy_of c.now key i }
+{
+    let at = TABLE_AT + FRAME_ENTRY * i;
+    u32_at(c, at + 2) as u32 == key && c[at] == COPY
 }
 
 // The lowest copy with the key from `from` on, by groups. Where a group has the key without such a copy, the rest is searched by whole entries:
@@ -47,19 +50,18 @@ fn by_key(c: &[u8], from: usize, frames: usize, key: u32) -> usize
     requires { (from ≤ frames) × (frames ≤ frame_limit) × (control_length frames ≤ length c.now) }
     ensures { result ≡ seek (copy_of c.now key) from (frames - from) }
 {
-    let wanted = (COPY as u64) + 65536 * (key as u64);
-    let mut i = from;
-    while i + GROUP <= frames {
+    let wanted = u64::from(COPY) + 65536 * u64::from(key);
+    let groups = (frames - from) / GROUP;
+    for g in 0..groups {
+        let i = from + GROUP * g;
         if group_has_key(c, i, key) {
-            let found = one_by_one(c, i, i + GROUP, COPY_BITS, wanted);
-            if found < i + GROUP {
-                return found;
-            }
-            return by_groups(c, End::Lowest, i + GROUP, frames, COPY_BITS, wanted);
+            return match (0..GROUP).find(|&k| is_copy_of(c, i + k, key)) {
+                Some(k) => i + k,
+                None => by_groups(c, End::Lowest, i + GROUP, frames, COPY_BITS, wanted),
+            };
         }
-        i += GROUP;
     }
-    one_by_one(c, i, frames, COPY_BITS, wanted)
+    one_by_one(c, from + GROUP * groups, frames, COPY_BITS, wanted)
 }
 
 // The lowest copy with the key among the first entries; their number where none is. Of a constant number the compiler makes no loop.
@@ -67,17 +69,7 @@ fn first_keyed(c: &[u8], key: u32) -> usize
     requires { frame_entry_at first_keyed ≤ length c.now }
     ensures { result ≡ seek (copy_of c.now key) 0 first_keyed }
 {
-    let mut i = 0;
-    while i < FIRST {
-        let at = TABLE_AT + FRAME_ENTRY * i;
-        if u32_at(c, at + 2) as u32 == key {
-            if c[at] == COPY {
-                return i;
-            }
-        }
-        i += 1;
-    }
-    FIRST
+    (0..FIRST).find(|&i| is_copy_of(c, i, key)).unwrap_or(FIRST)
 }
 
 // The lowest copy with the key; the frame count where none is.
@@ -85,12 +77,12 @@ pub fn lowest_keyed(c: &[u8], frames: usize, key: u32) -> usize
     requires { (frames ≤ frame_limit) × (control_length frames ≤ length c.now) }
     ensures { result ≡ lowest (copy_of c.now key) frames }
 {
-    if FIRST <= frames {
-        let found = first_keyed(c, key);
-        if found < FIRST {
-            return found;
-        }
-        return by_key(c, FIRST, frames, key);
+    if frames < FIRST {
+        return by_key(c, 0, frames, key);
     }
-    by_key(c, 0, frames, key)
+    let found = first_keyed(c, key);
+    if found < FIRST {
+        return found;
+    }
+    by_key(c, FIRST, frames, key)
 }

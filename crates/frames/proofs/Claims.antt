@@ -15,10 +15,10 @@ use Rattle.frames.specs.Table.{entry_end, frame_entry_of, put_frame_entry, usage
 use Rattle.frames.specs.declared.table.FrameEntry.{FrameEntry}
 use Rattle.frames.specs.declared.claim.Claim.{Claim}
 use Rattle.frames.specs.declared.claim.Claim.TheVariants.{Copy, Anonymous}
-use Rattle.frames.specs.declared.claim.Found.TheVariants.{At, Nothing}
 use Rattle.frames.proofs.Entries.{EntryRange, entry_other, entry_same}
 use Rattle.frames.proofs.Untouched.{frames_kept}
 use Rattle.frames.proofs.Found.{First, at_first, nothing_none, first_at, none_nothing}
+use Rattle.std.specs.Prelude.{None, Some}
 
 -- ---- what an entry holds
 
@@ -113,32 +113,32 @@ module _ (c : List ℕ) (q : Claim) where
   -- a search that ends at i, of all n entries
   module _ {n i : ℕ} (all : n ≡ frames c) (searched : i ≡ lowest (claims c q) n) where
     -- below n it found that frame
-    pub search_found : i < n → frame_of c q ≡ At (record { 0 = i })
+    pub search_found : i < n → frame_of c q ≡ Some (record { 0 = i })
     unfolding frame_of found_in
     search_found h = rw (← all, ← searched, lt-ltb i n h)
 
     -- else it found none
-    pub search_none : n ≤ i → frame_of c q ≡ Nothing
+    pub search_none : n ≤ i → frame_of c q ≡ None
     unfolding frame_of found_in
     search_none h = rw (← all, ← searched, le-ltb i n h)
 
   -- the frame that is found is the first that claims the page
-  pub frame_found : (f : Frame) → frame_of c q ≡ At f → First (claims c q) (frames c) f.0
+  pub frame_found : (f : Frame) → frame_of c q ≡ Some f → First (claims c q) (frames c) f.0
   unfolding frame_of
   frame_found f h = at_first (claims c q) (frames c) f h
 
   -- where no frame is found, none claims the page
-  pub frame_none : frame_of c q ≡ Nothing → (j : ℕ) → j < frames c → claims c q j ≡ false
+  pub frame_none : frame_of c q ≡ None → (j : ℕ) → j < frames c → claims c q j ≡ false
   unfolding frame_of
   frame_none h j l = nothing_none (claims c q) (frames c) h j l
 
   -- the first that claims the page is found
-  pub found_frame : (i : ℕ) → First (claims c q) (frames c) i → frame_of c q ≡ At (record { 0 = i })
+  pub found_frame : (i : ℕ) → First (claims c q) (frames c) i → frame_of c q ≡ Some (record { 0 = i })
   unfolding frame_of
   found_frame i f = first_at (claims c q) (frames c) i f
 
   -- where none claims it, no frame is found
-  pub none_frame : ((j : ℕ) → j < frames c → claims c q j ≡ false) → frame_of c q ≡ Nothing
+  pub none_frame : ((j : ℕ) → j < frames c → claims c q j ≡ false) → frame_of c q ≡ None
   unfolding frame_of
   none_frame h = none_nothing (claims c q) (frames c) h
 
@@ -168,8 +168,8 @@ module _ (c : List ℕ) (i : ℕ) (e : FrameEntry) (r : EntryRange e) (l : entry
   claims_same q = ap (λ (x : FrameEntry). holds q x) (entry_same c i e r l)
 
   -- a page without a frame, held by the new entry, has this frame
-  pub frame_taken : (q : Claim) → frame_of c q ≡ Nothing → i < frames c → holds q e ≡ true
-      → frame_of (put_frame_entry c i e) q ≡ At (record { 0 = i })
+  pub frame_taken : (q : Claim) → frame_of c q ≡ None → i < frames c → holds q e ≡ true
+      → frame_of (put_frame_entry c i e) q ≡ Some (record { 0 = i })
   frame_taken q n h t =
       found_frame (put_frame_entry c i e) q i
       (record {

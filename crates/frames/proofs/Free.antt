@@ -10,11 +10,11 @@ use Rattle.frames.specs.Table.{entry_end, frame_entry_of, put_frame_entry, is_fr
 use Rattle.frames.specs.declared.table.FrameEntry.{FrameEntry}
 use Rattle.frames.specs.declared.claim.End.{End}
 use Rattle.frames.specs.declared.claim.End.TheVariants.{Lowest, Highest}
-use Rattle.frames.specs.declared.claim.Found.TheVariants.{At}
 use Rattle.frames.proofs.Entries.{EntryRange, entry_other, entry_same}
 use Rattle.frames.proofs.Untouched.{frames_kept}
 use Rattle.frames.proofs.Claims.{unused}
 use Rattle.frames.proofs.Found.{First, lowest_first, at_first, first_at, found_at}
+use Rattle.std.specs.Prelude.{Some}
 
 -- ---- the free frame that is handed out next
 
@@ -25,12 +25,12 @@ pub record Free (c : List ℕ) (i : ℕ) : Type 0 where
 
 module _ (c : List ℕ) where
   -- asked for the lowest, the free frame that is found is the first
-  pub free_first : (f : Frame) → free_frame Lowest c ≡ At f → First (is_free c) (frames c) f.0
+  pub free_first : (f : Frame) → free_frame Lowest c ≡ Some f → First (is_free c) (frames c) f.0
   unfolding free_frame
   free_first f h = at_first (is_free c) (frames c) f h
 
   -- a frame that is found is free, by either end
-  pub free_found_lem : (e : End) (f : Frame) → free_frame e c ≡ At f → Free c f.0
+  pub free_found_lem : (e : End) (f : Frame) → free_frame e c ≡ Some f → Free c f.0
   unfolding free_frame
   free_found_lem Lowest f h = let x = free_first f h in record { below = x.below; passes = x.passes }
   free_found_lem Highest f h =
@@ -39,7 +39,7 @@ module _ (c : List ℕ) where
       record { below = rw x l; passes = rw x (highest_hits (is_free c) (frames c) l) }
 
   -- where one is free, the lowest is found
-  pub free_some : 1 ≤ free_count c → free_frame Lowest c ≡ At (record { 0 = lowest (is_free c) (frames c) })
+  pub free_some : 1 ≤ free_count c → free_frame Lowest c ≡ Some (record { 0 = lowest (is_free c) (frames c) })
   unfolding free_frame free_count
   free_some h =
       first_at (is_free c) (frames c) (lowest (is_free c) (frames c)) (lowest_first (is_free c) (frames c) (count_some (is_free c) (frames c) h))

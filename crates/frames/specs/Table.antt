@@ -1,5 +1,5 @@
 -- Document 01, "Three lent buffers": the ledger's frame table, and "Copies", with document 02, "Seven" and "Eight". Assumes nothing.
-use Rattle.std.specs.Prelude.{ℕ, ◌+◌, ◌*◌, Bool, true, false, List, ◌++◌, nat_lt, nat_eq}
+use Rattle.std.specs.Prelude.{ℕ, ◌+◌, ◌*◌, Bool, true, false, List, ◌++◌, nat_lt, nat_eq, None, Option, Some}
 use Rattle.layout.specs.Control.{table_at, frame_entry_size, usage_free, usage_copy, usage_stack, usage_heap}
 use Rattle.words.specs.Words.{word_at, word_bytes, splice}
 use Rattle.choice.specs.Choice.{pick, both}
@@ -12,8 +12,7 @@ use Rattle.frames.specs.declared.claim.Claim.{Claim}
 use Rattle.frames.specs.declared.claim.Claim.TheVariants.{Copy, Anonymous}
 use Rattle.frames.specs.declared.claim.End.{End}
 use Rattle.frames.specs.declared.claim.End.TheVariants.{Lowest, Highest}
-use Rattle.frames.specs.declared.claim.Found.{Found}
-use Rattle.frames.specs.declared.claim.Found.TheVariants.{At, Nothing}
+use Rattle.pages.specs.declared.Frame.{Frame}
 
 -- ---- entries: "a use byte .., a tag byte, u16 account, u16 page, u16 zero", which "becomes, for copies, the depth at the store that made the
 -- copy; stack and heap keep 0"
@@ -83,20 +82,20 @@ unfoldable pub is_free : List ℕ → ℕ → Bool
 is_free c i = nat_eq (frame_entry_of c i).usage usage_free
 
 -- a frame was found
-abbrev pub is_found : Found → Bool
-is_found (At f) = true
-is_found Nothing = false
+abbrev pub is_found : Option Frame → Bool
+is_found (Some f) = true
+is_found None = false
 
 -- an index below n as the frame that was found, n as none
-unfoldable pub found_in : ℕ → ℕ → Found
-found_in n i = pick (nat_lt i n) (At (record { 0 = i })) Nothing
+unfoldable pub found_in : ℕ → ℕ → Option Frame
+found_in n i = pick (nat_lt i n) (Some (record { 0 = i })) None
 
 -- "The frame of a page is the lowest-numbered entry that claims it."
-unfoldable pub frame_of : List ℕ → Claim → Found
+unfoldable pub frame_of : List ℕ → Claim → Option Frame
 frame_of c q = found_in (frames c) (lowest (claims c q) (frames c))
 
 -- the one choice of a free frame: document 02, "Seven", "promises one or the other by what it is asked"
-unfoldable pub free_frame : End → List ℕ → Found
+unfoldable pub free_frame : End → List ℕ → Option Frame
 free_frame Lowest c = found_in (frames c) (lowest (is_free c) (frames c))
 free_frame Highest c = found_in (frames c) (highest (is_free c) (frames c))
 

@@ -21,10 +21,11 @@ pub struct FrameEntry {
 fn frame_entry_at(f: Frame) -> usize
     ensures { result ≡ frame_entry_at f.0 }
 {
-    TABLE_AT + FRAME_ENTRY * (f.0 as usize)
+    TABLE_AT + FRAME_ENTRY * usize::from(f.0)
 }
 
 // The use byte of entry i. A loop over the table asks for it first: of most entries it says enough.
+#[tactic(auto, using(crate::proofs::Fields::byte_is))]
 pub fn usage_at(c: &[u8], i: usize) -> u8
     requires { entry_end i ≤ length c.now }
     ensures { result ≡ (frame_entry_of c.now i).usage }
@@ -52,7 +53,7 @@ pub fn frame_entry(c: &[u8], f: Frame) -> FrameEntry
     requires { entry_end f.0 ≤ length c.now }
     ensures { result ≡ frame_entry_of c.now f.0 }
 {
-    entry_at(c, f.0 as usize)
+    entry_at(c, usize::from(f.0))
 }
 
 // Writes a frame's entry, in one store.
@@ -60,8 +61,8 @@ pub fn put_frame_entry(c: &mut [u8], f: Frame, e: FrameEntry)
     requires { entry_end f.0 ≤ length c.old }
     ensures { c.new ≡ put_frame_entry c.old f.0 e }
 {
-    let low = (e.usage as u64) + 256 * (e.tag as u64) + 65536 * (e.account.0 as u64);
-    let high = (e.page.0 as u64) + 65536 * (e.depth as u64);
+    let low = u64::from(e.usage) + 256 * u64::from(e.tag) + 65536 * u64::from(e.account.0);
+    let high = u64::from(e.page.0) + 65536 * u64::from(e.depth);
     write(c, frame_entry_at(f), 8, low + 4294967296 * high);
 }
 

@@ -1,53 +1,55 @@
 -- The answers of the C interface: for each case of an answer its number and its values. A field that the case does not name is 0.
 -- Assumes nothing.
-use Rattle.std.specs.Prelude.{ℕ, List, [], nat_eq}
+use Rattle.std.specs.Prelude.{ℕ, List, [], nat_eq, Result, Err, Ok}
 use Rattle.words.specs.Words.{bytes_at}
 use Rattle.choice.specs.Choice.{pick}
 use Rattle.refusal.specs.Numbers.{number_of, distance_of, done}
-use Rattle.address.specs.declared.Joined.{Joined}
+use Rattle.refusal.specs.Checks.{Check}
+use Rattle.refusal.specs.declared.Refusal.{Refusal}
+use Rattle.address.specs.declared.Address.{Address}
 use Rattle.address.specs.declared.Fields.{Fields}
-use Rattle.translate.specs.declared.place.Outcome.{Outcome}
+use Rattle.translate.specs.Place.{Translation, number_of_answer, distance_of_answer}
 use Rattle.translate.specs.declared.place.Place.{Place}
 use Rattle.translate.specs.declared.place.Place.TheVariants.{InSnapshot, InControl, Zeros, InPool, Take}
-use Rattle.translate.specs.declared.place.Translation.{Translation}
-use Rattle.translate.specs.declared.place.Translation.TheVariants.{Allowed, Refused}
-use Rattle.access.specs.declared.loads.Value.{Value}
+use Rattle.access.specs.Loads.{value_in}
 use Rattle.records.specs.Layout.{decoded, buffer_layout, event_layout, location_layout, call_record_layout, returned_layout}
 use Rattle.records.specs.Records.{buffer_of, event_of, location_of, call_record_of, returned_of}
-use Rattle.records.specs.declared.reads.BufferRead.{BufferRead}
-use Rattle.records.specs.declared.reads.EventRead.{EventRead}
-use Rattle.records.specs.declared.reads.LocationRead.{LocationRead}
-use Rattle.records.specs.declared.reads.CallRecordRead.{CallRecordRead}
-use Rattle.records.specs.declared.reads.ReturnedRead.{ReturnedRead}
+use Rattle.hekthumar.specs.declared.record_reads.BufferRead.{BufferRead}
+use Rattle.hekthumar.specs.declared.record_reads.EventRead.{EventRead}
+use Rattle.hekthumar.specs.declared.record_reads.LocationRead.{LocationRead}
+use Rattle.hekthumar.specs.declared.record_reads.CallRecordRead.{CallRecordRead}
+use Rattle.hekthumar.specs.declared.record_reads.ReturnedRead.{ReturnedRead}
 use Rattle.view.specs.declared.View.{View}
 use Rattle.view.specs.declared.View.TheVariants as view
 use Rattle.hekthumar.specs.Steps.{Step}
 use Rattle.hekthumar.specs.declared.addresses.AddressAnswer.{AddressAnswer}
 use Rattle.hekthumar.specs.declared.addresses.FieldsAnswer.{FieldsAnswer}
 use Rattle.hekthumar.specs.declared.accesses.PlaceAnswer.{PlaceAnswer}
-use Rattle.hekthumar.specs.declared.accesses.ValueAnswer.{ValueAnswer}
-use Rattle.hekthumar.specs.declared.accesses.OutcomeAnswer.{OutcomeAnswer}
+use Rattle.hekthumar.specs.declared.values.ValueAnswer.{ValueAnswer}
+use Rattle.hekthumar.specs.declared.outcomes.OutcomeAnswer.{OutcomeAnswer}
 use Rattle.hekthumar.specs.declared.changes_of.ViewAnswer.{ViewAnswer}
 
--- an address and its number
-abbrev pub address_answer : Joined → AddressAnswer
-address_answer j = record { address = j.address.0; number = j.number }
+-- an address and its number: "and gives 0" where it is refused
+abbrev pub address_answer : Result Address Refusal → AddressAnswer
+address_answer (Ok a) = record { address = a.0; number = done }
+address_answer (Err r) = record { address = 0; number = number_of r }
 
--- an address's fields and its number
-abbrev pub fields_answer : Fields → FieldsAnswer
-fields_answer f = record { offset = f.offset; index = f.index; segment = f.segment_type; number = f.number }
+-- an address's fields and its number: zero fields where it is refused
+abbrev pub fields_answer : Result Fields Refusal → FieldsAnswer
+fields_answer (Ok f) = record { offset = f.offset; index = f.index; segment = f.segment_type; number = done }
+fields_answer (Err r) = record { offset = 0; index = 0; segment = 0; number = number_of r }
 
--- a value, with the distance and the number of its access
-abbrev pub value_answer : Value → ValueAnswer
-value_answer v = record { value = v.value; distance = v.outcome.distance; number = v.outcome.number }
+-- a value, with the distance and the number of its access: 0 where it is refused
+abbrev pub value_answer : Result ℕ Refusal → ValueAnswer
+value_answer v = record { value = value_in v; distance = distance_of_answer v; number = number_of_answer v }
 
 -- the same of a step
 abbrev pub step_value : Step → ValueAnswer
 step_value x = record { value = x.answer.value; distance = x.answer.distance; number = x.answer.number }
 
 -- the distance and the number of an access without a value
-abbrev pub outcome_answer : Outcome → OutcomeAnswer
-outcome_answer o = record { distance = o.distance; number = o.number }
+abbrev pub outcome_answer : Check → OutcomeAnswer
+outcome_answer o = record { distance = distance_of_answer o; number = number_of_answer o }
 
 -- the same of a step
 abbrev pub step_outcome : Step → OutcomeAnswer
@@ -63,18 +65,18 @@ place_of (Take n) = record { at = n.at; frame = n.frame.0; account = n.account.0
 
 -- translation's answer: where it is refused, the refusal's distance and no place
 abbrev pub place_answer : Translation → PlaceAnswer
-place_answer (Allowed q) = place_of q
-place_answer (Refused r) = record { at = distance_of r; frame = 0; account = 0; page = 0; place = 0; number = number_of r }
+place_answer (Ok q) = place_of q
+place_answer (Err r) = record { at = distance_of r; frame = 0; account = 0; page = 0; place = 0; number = number_of r }
 
 -- the distance that translation's answer gives, where it has no place
 abbrev pub distance_in : PlaceAnswer → ℕ
 distance_in x = pick (nat_eq x.place 0) x.at 0
 
 -- a view: 1 in the snapshot, 2 in the pool, 0 where it is refused
-abbrev pub view_answer : View → ViewAnswer
-view_answer (view.InSnapshot at n) = record { start = at; length = n; holder = 1; number = done }
-view_answer (view.InPool at n) = record { start = at; length = n; holder = 2; number = done }
-view_answer (view.Refused r) = record { start = 0; length = 0; holder = 0; number = number_of r }
+abbrev pub view_answer : Result View Refusal → ViewAnswer
+view_answer (Ok (view.InSnapshot at n)) = record { start = at; length = n; holder = 1; number = done }
+view_answer (Ok (view.InPool at n)) = record { start = at; length = n; holder = 2; number = done }
+view_answer (Err r) = record { start = 0; length = 0; holder = 0; number = number_of r }
 
 -- the bytes of the part that a view's answer names
 abbrev pub viewed : List ℕ → List ℕ → ViewAnswer → List ℕ

@@ -2,14 +2,14 @@
 -- `step_of`, and so is the theorem over every history. Assumes nothing.
 use Rattle.std.specs.Prelude.{ℕ, List, [], length}
 use Rattle.words.specs.Words.{word_bytes}
+use Rattle.refusal.specs.Checks.{check_number}
 use Rattle.snapshot.specs.declared.accounts.Account.{Account}
 use Rattle.control.specs.Buffers.{Buffers}
 use Rattle.pages.specs.declared.Page.{Page}
 use Rattle.segments.specs.Kinds.{kind_store, kind_store_span}
-use Rattle.translate.specs.Place.{outcome_of}
+use Rattle.translate.specs.Place.{outcome_of, Outcome}
 use Rattle.translate.specs.Translate.{translate_of}
-use Rattle.translate.specs.declared.place.Outcome.{Outcome}
-use Rattle.access.specs.Loads.{load_of, fetch_of, load_span_outcome, load_span_out}
+use Rattle.access.specs.Loads.{value_in, load_of, fetch_of, load_span_outcome, load_span_out}
 use Rattle.access.specs.Stores.{store_outcome, store_control, store_pool}
 use Rattle.records.specs.Layout.{Layout}
 use Rattle.records.specs.Calls.{read_outcome, read_bytes, write_outcome, write_control, write_pool}
@@ -74,12 +74,12 @@ unfoldable pub step_of : List ℕ → Buffers → Call → Step
 step_of s b (begin x) =
     answers (buffers (begin_control s b.control b.pool x) (begin_pool s b.control b.pool x)) (begin_number s b.control b.pool x) []
 step_of s b (translation kind a n) = accesses b (outcome_of (translate_of s b.control b.pool kind a n)) 0 []
-step_of s b (load a n) = accesses b (load_of s b.control b.pool a n).outcome (load_of s b.control b.pool a n).value []
+step_of s b (load a n) = accesses b (outcome_of (load_of s b.control b.pool a n)) (value_in (load_of s b.control b.pool a n)) []
 step_of s b (store a n v) =
     accesses (buffers (store_control s b.control b.pool kind_store a n) (store_pool s b.control b.pool kind_store a (word_bytes n v)))
     (store_outcome s b.control b.pool kind_store a n)
     0 []
-step_of s b (fetch a n) = accesses b (fetch_of s b.control b.pool a n).outcome (fetch_of s b.control b.pool a n).value []
+step_of s b (fetch a n) = accesses b (outcome_of (fetch_of s b.control b.pool a n)) (value_in (fetch_of s b.control b.pool a n)) []
 step_of s b (load_span a out) =
     accesses b (load_span_outcome s b.control b.pool a out) 0 (load_span_out s b.control b.pool a out)
 step_of s b (store_span a bytes) =
@@ -97,7 +97,7 @@ step_of s b (return registers) =
     answers (buffers (return_control s b.control b.pool registers) b.pool) (return_number s b.control b.pool registers)
     (return_out s b.control b.pool registers)
 step_of s b (resize region n) =
-    answers (resize_of s b.control b.pool region n).after (resize_of s b.control b.pool region n).number []
+    answers (resize_of s b.control b.pool region n).after (check_number (resize_of s b.control b.pool region n).answer) []
 step_of s b (change_list out) =
     answers b (change_list_number s b.control b.pool out) (change_list_out s b.control b.pool out)
 step_of s b (page_view a q) =

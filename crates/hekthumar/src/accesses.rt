@@ -1,15 +1,18 @@
 // Translation and the five accesses.
-ghost use Rattle.std.specs.Prelude.{◌≡◌, ◌<◌};
-ghost use Rattle.layout.specs.Page.{page_size};
+#![tactic(auto, using(access::proofs::Near::load_near, access::proofs::Near::fetch_near, access::proofs::Near::store_near, access::proofs::Near::span_near, crate::proofs::Named::store_answered, crate::proofs::Named::span_answered, crate::proofs::Named::place_number, crate::proofs::Named::place_distance), unfolding(crate::specs::Steps::step_of))]
+
+ghost use Rattle.std.specs.Prelude.{◌≡◌};
 ghost use Rattle.translate.specs.Translate.{translate_of};
 ghost use Rattle.hekthumar.specs.Steps.{translation, load, fetch, store, load_span, store_span, lent};
-ghost use Rattle.hekthumar.specs.Answers.{place_of, place_answer, distance_in, value_answer, step_value, outcome_answer, step_outcome};
+ghost use Rattle.hekthumar.specs.Answers.{place_of, place_answer, distance_in, step_value, step_outcome};
 
-use access::loads::{Value, fetch, load, load_span};
+use super::outcomes::{OutcomeAnswer, outcome_answer};
+use super::values::{ValueAnswer, value_answer};
+use access::loads::{fetch, load, load_span};
 use access::stores::{store, store_span};
 use address::Address;
-use refusal::{DONE, distance, number};
-use translate::place::{Outcome, Place, Translation};
+use refusal::{DONE, Refusal};
+use translate::place::Place;
 use translate::translation::translate;
 
 // Translation's answer: a field that the case does not name is 0. Where a byte is not present, `at` is the distance to it.
@@ -21,23 +24,6 @@ pub struct PlaceAnswer {
     pub account: u16,
     pub page: u16,
     pub place: u8,
-    pub number: u8,
-}
-
-// A value, or 0 and the number of the refusal; where a byte is not present, the distance to it.
-#[repr(C)]
-#[derive(Clone, Copy)]
-pub struct ValueAnswer {
-    pub value: u64,
-    pub distance: u16,
-    pub number: u8,
-}
-
-// The number of an access without a value; where a byte is not present, the distance to it.
-#[repr(C)]
-#[derive(Clone, Copy)]
-pub struct OutcomeAnswer {
-    pub distance: u16,
     pub number: u8,
 }
 
@@ -56,26 +42,47 @@ fn at_place(place: u8, at: usize) -> PlaceAnswer
 }
 
 // The place of an allowed access.
-fn place_of(p: Place) -> PlaceAnswer
-    ensures { result ≡ place_of p }
-{
-    match p {
-        Place::InSnapshot(at) => at_place(1, at),
-        Place::InControl(at) => at_place(2, at),
-        Place::Zeros => at_place(3, 0),
-        Place::InPool(at) => at_place(4, at),
-        Place::Take(n) => {
-            let f = n.frame;
-            let a = n.account;
-            let q = n.page;
-            PlaceAnswer {
-                at: n.at as u64,
-                frame: f.0,
-                account: a.0,
-                page: q.0,
-                place: 5,
-                number: DONE,
+impl From<Place> for PlaceAnswer {
+    ghost from_gives = { λ place answer. answer ≡ place_of place };
+
+    fn from(place: Place) -> PlaceAnswer {
+        match place {
+            Place::InSnapshot(at) => at_place(1, at),
+            Place::InControl(at) => at_place(2, at),
+            Place::Zeros => at_place(3, 0),
+            Place::InPool(at) => at_place(4, at),
+            Place::Take(n) => {
+                let f = n.frame;
+                let a = n.account;
+                let q = n.page;
+                PlaceAnswer {
+                    at: n.at as u64,
+                    frame: f.0,
+                    account: a.0,
+                    page: q.0,
+                    place: 5,
+                    number: DONE,
+                }
             }
+        }
+    }
+}
+
+// A place, or the refusal's distance and number.
+impl From<Result<Place, Refusal>> for PlaceAnswer {
+    ghost from_gives = { λ translation answer. answer ≡ place_answer translation };
+
+    fn from(translation: Result<Place, Refusal>) -> PlaceAnswer {
+        match translation {
+            Ok(place) => PlaceAnswer::from(place),
+            Err(refusal) => PlaceAnswer {
+                at: refusal.distance() as u64,
+                frame: 0,
+                account: 0,
+                page: 0,
+                place: 0,
+                number: refusal.number(),
+            },
         }
     }
 }
@@ -95,42 +102,7 @@ pub fn hekthumar_translate(
     ensures control_value { control.now ≡ (lent snapshot.now control.now pool.now (translation kind address length)).after.control }
     ensures pool_value { pool.now ≡ (lent snapshot.now control.now pool.now (translation kind address length)).after.pool }
 {
-    let t = translate(snapshot, control, pool, kind, Address(address), length);
-    match t {
-        Translation::Allowed(p) => place_of(p),
-        Translation::Refused(r) => PlaceAnswer {
-            at: distance(r) as u64,
-            frame: 0,
-            account: 0,
-            page: 0,
-            place: 0,
-            number: number(r),
-        },
-    }
-}
-
-// A value and what its access answers. A distance is below the length of an access, so it fits.
-fn value_of(v: Value) -> ValueAnswer
-    requires { v.outcome.distance < page_size }
-    ensures { result ≡ value_answer v }
-{
-    let o = v.outcome;
-    ValueAnswer {
-        value: v.value,
-        distance: o.distance as u16,
-        number: o.number,
-    }
-}
-
-// What an access without a value answers.
-pub fn outcome_answer(o: Outcome) -> OutcomeAnswer
-    requires { o.distance < page_size }
-    ensures { result ≡ outcome_answer o }
-{
-    OutcomeAnswer {
-        distance: o.distance as u16,
-        number: o.number,
-    }
+    PlaceAnswer::from(translate(snapshot, control, pool, kind, Address(address), length))
 }
 
 // Loads 1, 2, 4 or 8 bytes.
@@ -145,7 +117,7 @@ pub fn hekthumar_load(
     ensures control_value { control.now ≡ (lent snapshot.now control.now pool.now (load address size)).after.control }
     ensures pool_value { pool.now ≡ (lent snapshot.now control.now pool.now (load address size)).after.pool }
 {
-    value_of(load(snapshot, control, pool, Address(address), size))
+    value_answer(load(snapshot, control, pool, Address(address), size))
 }
 
 // Fetches 1, 2, 4 or 8 bytes of the current program.
@@ -160,7 +132,7 @@ pub fn hekthumar_fetch(
     ensures control_value { control.now ≡ (lent snapshot.now control.now pool.now (fetch address size)).after.control }
     ensures pool_value { pool.now ≡ (lent snapshot.now control.now pool.now (fetch address size)).after.pool }
 {
-    value_of(fetch(snapshot, control, pool, Address(address), size))
+    value_answer(fetch(snapshot, control, pool, Address(address), size))
 }
 
 // Stores the lowest bytes of a value.

@@ -1,4 +1,6 @@
 // The change list, its application and the page view.
+#![tactic(auto, using(crate::proofs::Named::view_number_lem, crate::proofs::Named::view_bytes_lem), unfolding(crate::specs::Steps::step_of, changes::specs::List::change_list_number, apply::specs::Apply::apply_number))]
+
 ghost use Rattle.std.specs.Prelude.{◌≡◌};
 ghost use Rattle.apply.specs.Apply.{apply_number, apply_data};
 ghost use Rattle.view.specs.View.{view_of};
@@ -8,7 +10,7 @@ ghost use Rattle.hekthumar.specs.Answers.{view_answer, viewed};
 use apply::apply;
 use changes::list::change_list;
 use pages::Page;
-use refusal::{DONE, number};
+use refusal::{DONE, Refusal, number};
 use snapshot::accounts::Account;
 use view::{View, find_view};
 
@@ -22,6 +24,33 @@ pub struct ViewAnswer {
     pub number: u8,
 }
 
+impl From<Result<View, Refusal>> for ViewAnswer {
+    ghost from_gives = { λ view answer. answer ≡ view_answer view };
+
+    fn from(view: Result<View, Refusal>) -> ViewAnswer {
+        match view {
+            Ok(View::InSnapshot(at, n)) => ViewAnswer {
+                start: at as u64,
+                length: n as u64,
+                holder: 1,
+                number: DONE,
+            },
+            Ok(View::InPool(at, n)) => ViewAnswer {
+                start: at as u64,
+                length: n as u64,
+                holder: 2,
+                number: DONE,
+            },
+            Err(refusal) => ViewAnswer {
+                start: 0,
+                length: 0,
+                holder: 0,
+                number: refusal.number(),
+            },
+        }
+    }
+}
+
 // Writes the change list into the lent buffer.
 pub fn hekthumar_change_list(snapshot: &[u8], control: &[u8], pool: &[u8], out: &mut [u8]) -> u8
     ensures value { result ≡ (lent snapshot.now control.now pool.now (change_list out.old)).answer.number }
@@ -29,7 +58,7 @@ pub fn hekthumar_change_list(snapshot: &[u8], control: &[u8], pool: &[u8], out: 
     ensures control_value { control.now ≡ (lent snapshot.now control.now pool.now (change_list out.old)).after.control }
     ensures pool_value { pool.now ≡ (lent snapshot.now control.now pool.now (change_list out.old)).after.pool }
 {
-    change_list(snapshot, control, pool, out)
+    number(change_list(snapshot, control, pool, out))
 }
 
 // Applies a change list to an account's data.
@@ -37,7 +66,7 @@ pub fn hekthumar_apply(list: &[u8], account: u16, data: &mut [u8]) -> u8
     ensures value { result ≡ apply_number list.now (record { 0 = account }) «data».old }
     ensures data_after { «data».new ≡ apply_data list.now (record { 0 = account }) «data».old }
 {
-    apply(list, Account(account), data)
+    number(apply(list, Account(account), data))
 }
 
 // Where an account page's live bytes lie now.
@@ -54,24 +83,5 @@ pub fn hekthumar_page_view(
     ensures control_value { control.now ≡ (lent snapshot.now control.now pool.now (page_view (record { 0 = account }) (record { 0 = page }))).after.control }
     ensures pool_value { pool.now ≡ (lent snapshot.now control.now pool.now (page_view (record { 0 = account }) (record { 0 = page }))).after.pool }
 {
-    match find_view(snapshot, control, pool, Account(account), Page(page)) {
-        View::InSnapshot(at, n) => ViewAnswer {
-            start: at as u64,
-            length: n as u64,
-            holder: 1,
-            number: DONE,
-        },
-        View::InPool(at, n) => ViewAnswer {
-            start: at as u64,
-            length: n as u64,
-            holder: 2,
-            number: DONE,
-        },
-        View::Refused(r) => ViewAnswer {
-            start: 0,
-            length: 0,
-            holder: 0,
-            number: number(r),
-        },
-    }
+    ViewAnswer::from(find_view(snapshot, control, pool, Account(account), Page(page)))
 }

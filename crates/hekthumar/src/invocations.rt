@@ -1,9 +1,12 @@
 // Begin, call, return and resize.
+#![tactic(auto, unfolding(crate::specs::Steps::step_of, invoke::specs::Invoke::begin_number, invoke::specs::Invoke::call_number, invoke::specs::Invoke::return_number))]
+
 ghost use Rattle.std.specs.Prelude.{◌≡◌};
 ghost use Rattle.hekthumar.specs.Steps.{begin_with, call, return, resize, lent};
 
 use invoke::begin::{Start, begin};
 use invoke::calls::{call, return_from};
+use refusal::number;
 use regions::resize::resize;
 use snapshot::accounts::Account;
 
@@ -24,7 +27,7 @@ pub fn hekthumar_begin(
         edition,
         pages: 1,
     };
-    begin(snapshot, control, pool, start)
+    number(begin(snapshot, control, pool, start))
 }
 
 // Begins a program of an edition, 1 or 2, with so many stack pages, 0 or 1.
@@ -45,7 +48,7 @@ pub fn hekthumar_begin_pages(
         edition,
         pages,
     };
-    begin(snapshot, control, pool, start)
+    number(begin(snapshot, control, pool, start))
 }
 
 // Calls a program with 256 bytes of registers.
@@ -60,7 +63,7 @@ pub fn hekthumar_call(
     ensures control_after { control.new ≡ (lent snapshot.now control.old pool.now (call (record { 0 = program }) registers.now)).after.control }
     ensures pool_value { pool.now ≡ (lent snapshot.now control.old pool.now (call (record { 0 = program }) registers.now)).after.pool }
 {
-    call(snapshot, control, pool, Account(program), registers)
+    number(call(snapshot, control, pool, Account(program), registers))
 }
 
 // Returns from the current invocation, handing its registers back.
@@ -75,7 +78,7 @@ pub fn hekthumar_return(
     ensures control_after { control.new ≡ (lent snapshot.now control.old pool.now (return registers.old)).after.control }
     ensures pool_value { pool.now ≡ (lent snapshot.now control.old pool.now (return registers.old)).after.pool }
 {
-    return_from(snapshot, control, pool, registers)
+    number(return_from(snapshot, control, pool, registers))
 }
 
 // Resizes a region of the current invocation: 2 is the stack, 3 the heap.
@@ -90,5 +93,5 @@ pub fn hekthumar_resize(
     ensures control_after { control.new ≡ (lent snapshot.now control.old pool.old (resize region pages)).after.control }
     ensures pool_after { pool.new ≡ (lent snapshot.now control.old pool.old (resize region pages)).after.pool }
 {
-    resize(snapshot, control, pool, region, pages)
+    number(resize(snapshot, control, pool, region, pages))
 }

@@ -1,20 +1,18 @@
 // Records in program memory: five reads and five writes.
+#![tactic(auto, using(records::proofs::Judged::write_near), unfolding(crate::specs::Steps::step_of))]
+
 ghost use Rattle.std.specs.Prelude.{◌≡◌};
 ghost use Rattle.records.specs.Layout.{buffer_layout, event_layout, location_layout, call_record_layout, returned_layout};
 ghost use Rattle.records.specs.Records.{buffer_fields, event_fields, location_fields, call_record_fields, returned_fields};
 ghost use Rattle.hekthumar.specs.Steps.{read_record, write_record, lent};
 ghost use Rattle.hekthumar.specs.Answers.{step_buffer, step_event, step_location, step_call_record, step_returned, step_outcome};
 
-use super::accesses::{OutcomeAnswer, outcome_answer};
+use super::outcomes::{OutcomeAnswer, outcome_answer};
+use super::record_reads::{BufferRead, CallRecordRead, EventRead, LocationRead, ReturnedRead};
 use address::Address;
-use records::reads::{
-    BufferRead, CallRecordRead, EventRead, LocationRead, ReturnedRead, read_buffer,
-    read_call_record, read_event, read_location, read_returned,
-};
+use records::reads::read;
 use records::types::{Buffer, CallRecord, Event, Location, Returned};
-use records::writes::{
-    write_buffer, write_call_record, write_event, write_location, write_returned,
-};
+use records::writes::write;
 
 // Reads a buffer descriptor.
 pub fn hekthumar_read_buffer(
@@ -27,7 +25,7 @@ pub fn hekthumar_read_buffer(
     ensures control_value { control.now ≡ (lent snapshot.now control.now pool.now (read_record buffer_layout address)).after.control }
     ensures pool_value { pool.now ≡ (lent snapshot.now control.now pool.now (read_record buffer_layout address)).after.pool }
 {
-    read_buffer(snapshot, control, pool, Address(address))
+    BufferRead::from(read(snapshot, control, pool, Address(address)))
 }
 
 // Reads an event.
@@ -36,7 +34,7 @@ pub fn hekthumar_read_event(snapshot: &[u8], control: &[u8], pool: &[u8], addres
     ensures control_value { control.now ≡ (lent snapshot.now control.now pool.now (read_record event_layout address)).after.control }
     ensures pool_value { pool.now ≡ (lent snapshot.now control.now pool.now (read_record event_layout address)).after.pool }
 {
-    read_event(snapshot, control, pool, Address(address))
+    EventRead::from(read(snapshot, control, pool, Address(address)))
 }
 
 // Reads a location.
@@ -50,7 +48,7 @@ pub fn hekthumar_read_location(
     ensures control_value { control.now ≡ (lent snapshot.now control.now pool.now (read_record location_layout address)).after.control }
     ensures pool_value { pool.now ≡ (lent snapshot.now control.now pool.now (read_record location_layout address)).after.pool }
 {
-    read_location(snapshot, control, pool, Address(address))
+    LocationRead::from(read(snapshot, control, pool, Address(address)))
 }
 
 // Reads a call record.
@@ -64,7 +62,7 @@ pub fn hekthumar_read_call_record(
     ensures control_value { control.now ≡ (lent snapshot.now control.now pool.now (read_record call_record_layout address)).after.control }
     ensures pool_value { pool.now ≡ (lent snapshot.now control.now pool.now (read_record call_record_layout address)).after.pool }
 {
-    read_call_record(snapshot, control, pool, Address(address))
+    CallRecordRead::from(read(snapshot, control, pool, Address(address)))
 }
 
 // Reads a returned value.
@@ -78,7 +76,7 @@ pub fn hekthumar_read_returned(
     ensures control_value { control.now ≡ (lent snapshot.now control.now pool.now (read_record returned_layout address)).after.control }
     ensures pool_value { pool.now ≡ (lent snapshot.now control.now pool.now (read_record returned_layout address)).after.pool }
 {
-    read_returned(snapshot, control, pool, Address(address))
+    ReturnedRead::from(read(snapshot, control, pool, Address(address)))
 }
 
 // Writes a buffer descriptor.
@@ -93,7 +91,7 @@ pub fn hekthumar_write_buffer(
     ensures control_after { control.new ≡ (lent snapshot.now control.old pool.old (write_record buffer_layout address (buffer_fields «record»))).after.control }
     ensures pool_after { pool.new ≡ (lent snapshot.now control.old pool.old (write_record buffer_layout address (buffer_fields «record»))).after.pool }
 {
-    outcome_answer(write_buffer(snapshot, control, pool, Address(address), record))
+    outcome_answer(write::<Buffer, _>(snapshot, control, pool, Address(address), record))
 }
 
 // Writes an event.
@@ -108,7 +106,7 @@ pub fn hekthumar_write_event(
     ensures control_after { control.new ≡ (lent snapshot.now control.old pool.old (write_record event_layout address (event_fields «record»))).after.control }
     ensures pool_after { pool.new ≡ (lent snapshot.now control.old pool.old (write_record event_layout address (event_fields «record»))).after.pool }
 {
-    outcome_answer(write_event(snapshot, control, pool, Address(address), record))
+    outcome_answer(write::<Event, _>(snapshot, control, pool, Address(address), record))
 }
 
 // Writes a location.
@@ -123,7 +121,7 @@ pub fn hekthumar_write_location(
     ensures control_after { control.new ≡ (lent snapshot.now control.old pool.old (write_record location_layout address (location_fields «record»))).after.control }
     ensures pool_after { pool.new ≡ (lent snapshot.now control.old pool.old (write_record location_layout address (location_fields «record»))).after.pool }
 {
-    outcome_answer(write_location(snapshot, control, pool, Address(address), record))
+    outcome_answer(write::<Location, _>(snapshot, control, pool, Address(address), record))
 }
 
 // Writes a call record.
@@ -138,7 +136,7 @@ pub fn hekthumar_write_call_record(
     ensures control_after { control.new ≡ (lent snapshot.now control.old pool.old (write_record call_record_layout address (call_record_fields «record»))).after.control }
     ensures pool_after { pool.new ≡ (lent snapshot.now control.old pool.old (write_record call_record_layout address (call_record_fields «record»))).after.pool }
 {
-    outcome_answer(write_call_record(snapshot, control, pool, Address(address), record))
+    outcome_answer(write::<CallRecord, _>(snapshot, control, pool, Address(address), record))
 }
 
 // Writes a returned value.
@@ -153,5 +151,5 @@ pub fn hekthumar_write_returned(
     ensures control_after { control.new ≡ (lent snapshot.now control.old pool.old (write_record returned_layout address (returned_fields «record»))).after.control }
     ensures pool_after { pool.new ≡ (lent snapshot.now control.old pool.old (write_record returned_layout address (returned_fields «record»))).after.pool }
 {
-    outcome_answer(write_returned(snapshot, control, pool, Address(address), record))
+    outcome_answer(write::<Returned, _>(snapshot, control, pool, Address(address), record))
 }

@@ -5,7 +5,9 @@ ghost use Rattle.hekthumar.specs.Steps.{translation, load, fetch, store, load_sp
 ghost use Rattle.hekthumar.specs.Answers.{place_answer, distance_in, step_value, step_outcome};
 
 use hekthumar::accesses;
-use hekthumar::accesses::{OutcomeAnswer, PlaceAnswer, ValueAnswer};
+use hekthumar::accesses::PlaceAnswer;
+use hekthumar::outcomes::OutcomeAnswer;
+use hekthumar::values::ValueAnswer;
 
 // From an address to a place or a refusal.
 #[unsafe(no_mangle)]

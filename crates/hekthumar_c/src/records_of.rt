@@ -5,9 +5,9 @@ ghost use Rattle.records.specs.Records.{buffer_fields, event_fields, location_fi
 ghost use Rattle.hekthumar.specs.Steps.{read_record, write_record, lent};
 ghost use Rattle.hekthumar.specs.Answers.{step_buffer, step_event, step_location, step_call_record, step_returned, step_outcome};
 
-use hekthumar::accesses::OutcomeAnswer;
+use hekthumar::outcomes::OutcomeAnswer;
+use hekthumar::record_reads::{BufferRead, CallRecordRead, EventRead, LocationRead, ReturnedRead};
 use hekthumar::records_of;
-use records::reads::{BufferRead, CallRecordRead, EventRead, LocationRead, ReturnedRead};
 use records::types::{Buffer, CallRecord, Event, Location, Returned};
 
 // Reads a buffer descriptor.

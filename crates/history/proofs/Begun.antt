@@ -8,7 +8,6 @@ use native.Mathlib.Omega.{arith}
 use lib.ListN.{length}
 use Rattle.choice.proofs.Tests.{by_test, differ}
 use Rattle.refusal.proofs.Checks.{check_passed}
-use Rattle.refusal.specs.declared.Check.TheVariants.{Pass}
 use Rattle.snapshot.specs.Header.{accounts}
 use Rattle.control.specs.Control.{invocations, buffers_valid}
 use Rattle.control.proofs.Facts.{buffers_valid_lem}
@@ -29,8 +28,9 @@ use Rattle.history.proofs.Good.{copy_of, LiveRecord, Good}
 use Rattle.history.proofs.Others.{GoodAfter}
 use Rattle.history.proofs.Refused.{keep_refused}
 use Rattle.history.proofs.Resized.{resized_good}
+use Rattle.std.specs.Prelude.{Ok}
 
-module _ (s : List ℕ) (size : ℕ) (p : List ℕ) (x : Start) (e : begin_check s size (length p) x ≡ Pass) where
+module _ (s : List ℕ) (size : ℕ) (p : List ℕ) (x : Start) (e : begin_check s size (length p) x ≡ Ok tt) where
   -- what the check has shown
   facts : BeginFacts s size (length p) x
   facts = begin_facts s size (length p) x e
@@ -103,7 +103,7 @@ module _ (s : List ℕ) (size : ℕ) (p : List ℕ) (x : Start) (e : begin_check
 pub opens : (s : List ℕ) (b : Buffers) (x : Start) → accepted s b (begin x) ≡ true → Good s (step_of s b (begin x)).after (started s)
 unfolding step_of begin_number begin_control begin_pool
 opens s b x e =
-    let n : begin_check s (length b.control) (length b.pool) x ≡ Pass = check_passed _ e in
+    let n : begin_check s (length b.control) (length b.pool) x ≡ Ok tt = check_passed _ e in
     rw n (begun_good s (length b.control) b.pool x n)
 
 -- a begin keeps it, accepted or refused

@@ -8,7 +8,6 @@ use native.Mathlib.Omega.{arith}
 use lib.ListN.{length}
 use Rattle.choice.proofs.Tests.{by_test}
 use Rattle.refusal.proofs.Checks.{check_passed}
-use Rattle.refusal.specs.declared.Check.TheVariants.{Pass}
 use Rattle.snapshot.specs.Header.{accounts}
 use Rattle.snapshot.specs.declared.accounts.Account.{Account}
 use Rattle.control.specs.Control.{frames, invocations, depth}
@@ -28,6 +27,7 @@ use Rattle.history.specs.Replay.{Replay, at_depth, replay_effect}
 use Rattle.history.proofs.Good.{copy_of, LiveRecord, Good}
 use Rattle.history.proofs.Others.{GoodAfter, keep_other, record_same, records_valid}
 use Rattle.history.proofs.Refused.{keep_refused}
+use Rattle.std.specs.Prelude.{Ok}
 
 module _ {s : List ℕ} {b : Buffers} {r : Replay} (g : Good s b r) where
   -- the control block
@@ -36,7 +36,7 @@ module _ {s : List ℕ} {b : Buffers} {r : Replay} (g : Good s b r) where
 
   -- ---- a call
 
-  module _ (a : Account) (registers : List ℕ) (e : call_check s c b.pool a (length registers) ≡ Pass) where
+  module _ (a : Account) (registers : List ℕ) (e : call_check s c b.pool a (length registers) ≡ Ok tt) where
     -- what the check has shown
     call_shows : CallFacts s c b.pool a (length registers)
     call_shows = call_facts s c b.pool a (length registers) e
@@ -77,13 +77,13 @@ module _ {s : List ℕ} {b : Buffers} {r : Replay} (g : Good s b r) where
   keep_call a registers =
       by_test (accepted s b (call a registers))
       (λ e.
-      let n : call_check s c b.pool a (length registers) ≡ Pass = check_passed _ e in
+      let n : call_check s c b.pool a (length registers) ≡ Ok tt = check_passed _ e in
       rw (e, n) (called_good a registers n))
       (λ e. keep_refused g (call a registers) e)
 
   -- ---- a return
 
-  module _ (size : ℕ) (e : return_check s c b.pool size ≡ Pass) where
+  module _ (size : ℕ) (e : return_check s c b.pool size ≡ Ok tt) where
     -- what the check has shown
     return_shows : ReturnFacts s c b.pool size
     return_shows = return_facts s c b.pool size e
@@ -129,6 +129,6 @@ module _ {s : List ℕ} {b : Buffers} {r : Replay} (g : Good s b r) where
   keep_return registers =
       by_test (accepted s b (return registers))
       (λ e.
-      let n : return_check s c b.pool (length registers) ≡ Pass = check_passed _ e in
+      let n : return_check s c b.pool (length registers) ≡ Ok tt = check_passed _ e in
       rw (e, n) (returned_good (length registers) n))
       (λ e. keep_refused g (return registers) e)

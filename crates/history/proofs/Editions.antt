@@ -14,8 +14,6 @@ use Rattle.segments.specs.Kinds.{kind_store, kind_store_span}
 use Rattle.translate.specs.Translate.{translate_of}
 use Rattle.translate.specs.declared.place.Place.{Place}
 use Rattle.translate.specs.declared.place.Place.TheVariants.{InSnapshot, InControl, Zeros, InPool, Take}
-use Rattle.translate.specs.declared.place.Translation.{Translation}
-use Rattle.translate.specs.declared.place.Translation.TheVariants.{Allowed, Refused}
 use Rattle.access.specs.Stores.{copy_entry, prepared_control, control_after, store_control}
 use Rattle.records.specs.Layout.{Layout, encoded, valid_fields}
 use Rattle.records.specs.Calls.{write_control}
@@ -27,6 +25,8 @@ use Rattle.regions.proofs.Shrunk.{shrunk_only}
 use Rattle.hekthumar.specs.Steps.{begin, translation, load, store, fetch, load_span, store_span, read_record, write_record, call, return, resize, change_list, page_view, step_of}
 use Rattle.history.specs.Calls.{effect}
 use Rattle.history.specs.Editions.{BeginTakes, OthersKeep}
+use Rattle.std.specs.Prelude.{Err, Ok}
+use Rattle.translate.specs.Place.{Translation}
 
 module _ (s c p : List ℕ) where
   -- ---- a store writes an entry of the frame table, if anything
@@ -39,8 +39,8 @@ module _ (s c p : List ℕ) where
   place_edition (Take t) = table_edition (table_put c t.frame.0 (copy_entry c t))
 
   after_edition : (t : Translation) → edition (control_after c t) ≡ edition c
-  after_edition (Allowed q) = place_edition q
-  after_edition (Refused r) = refl
+  after_edition (Ok q) = place_edition q
+  after_edition (Err r) = refl
 
   store_edition : (kind a n : ℕ) → edition (store_control s c p kind a n) ≡ edition c
   unfolding store_control

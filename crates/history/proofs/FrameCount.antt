@@ -16,8 +16,6 @@ use Rattle.frames.proofs.Free.{free_found_lem}
 use Rattle.segments.specs.Kinds.{kind_store, kind_store_span}
 use Rattle.translate.specs.Translate.{translate_of}
 use Rattle.translate.specs.declared.place.Place.TheVariants.{InSnapshot, InControl, Zeros, InPool, Take}
-use Rattle.translate.specs.declared.place.Translation.{Translation}
-use Rattle.translate.specs.declared.place.Translation.TheVariants.{Allowed, Refused}
 use Rattle.translate.proofs.Accepted.{accepted}
 use Rattle.translate.proofs.Stores.{take_place}
 use Rattle.access.proofs.Entry.{copy_range}
@@ -37,16 +35,18 @@ use Rattle.history.specs.Replay.{started, replay, feed}
 use Rattle.history.specs.Claims.{FrameCountRule}
 use Rattle.history.proofs.Counted.{touched_count}
 use Rattle.history.proofs.Theorem.{good_after}
+use Rattle.std.specs.Prelude.{Err, Ok}
+use Rattle.translate.specs.Place.{Translation}
 
 module _ (s c p : List ℕ) (kind a n : ℕ) (h : Rights c) where
   -- a store changes at most a free entry, into a copy's
   stored : (t : Translation) → translate_of s c p kind a n ≡ t → Rights (control_after c t)
-  stored (Refused x) e = h
-  stored (Allowed (InSnapshot at)) e = h
-  stored (Allowed (InControl at)) e = h
-  stored (Allowed Zeros) e = h
-  stored (Allowed (InPool at)) e = h
-  stored (Allowed (Take t)) e =
+  stored (Err x) e = h
+  stored (Ok (InSnapshot at)) e = h
+  stored (Ok (InControl at)) e = h
+  stored (Ok Zeros) e = h
+  stored (Ok (InPool at)) e = h
+  stored (Ok (Take t)) e =
       let u = take_place s c p kind a n e in
       let v = buffers_facts s c p (accepted s c p kind a n e refl).buffers in
       let free = free_found_lem c Highest t.frame u.free in

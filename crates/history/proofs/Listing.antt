@@ -15,7 +15,6 @@ use Rattle.choice.proofs.Ascending.{Member, picked-passes}
 use Rattle.choice.proofs.Every.{every_all}
 use Rattle.choice.specs.Search.{every}
 use Rattle.choice.proofs.Tests.{by_test, differ}
-use Rattle.refusal.specs.declared.Check.TheVariants.{Pass}
 use Rattle.refusal.proofs.Checks.{need_on, need_last}
 use Rattle.snapshot.specs.Accounts.{entry_of, data_length}
 use Rattle.control.specs.Control.{frames}
@@ -25,8 +24,6 @@ use Rattle.pages.specs.Pages.{live, page_there}
 use Rattle.pages.specs.declared.Frame.{Frame}
 use Rattle.frames.specs.Table.{frame_entry_of, claims, frame_of, is_found, is_copy}
 use Rattle.frames.specs.declared.claim.Claim.TheVariants.{Copy}
-use Rattle.frames.specs.declared.claim.Found.{Found}
-use Rattle.frames.specs.declared.claim.Found.TheVariants.{At, Nothing}
 use Rattle.frames.proofs.Found.{First}
 use Rattle.frames.proofs.Claims.{copy_claims, frame_found, frame_none}
 use Rattle.changes.specs.Keys.{key_of, key_account, key_page, key_claim, key_limit, is_copied, copy_keys}
@@ -36,6 +33,7 @@ use Rattle.changes.proofs.Written.{joined_ext}
 use Rattle.history.specs.Replay.{Replay, touched_keys, plain_page, expected_list}
 use Rattle.history.specs.Claims.{ListRight}
 use Rattle.history.proofs.Good.{LivePage, Good}
+use Rattle.std.specs.Prelude.{None, Ok, Option, Some}
 
 -- ---- the frame of a key
 
@@ -44,12 +42,12 @@ pub record Framed (c : List ℕ) (k : ℕ) : Type 0 where
   pub frame : ℕ
   pub below : frame < frames c
   pub claimed : claims c (key_claim k) frame ≡ true
-  pub found : frame_of c (key_claim k) ≡ At (record { 0 = frame })
+  pub found : frame_of c (key_claim k) ≡ Some (record { 0 = frame })
 
 -- what holds where a frame was found and where none was, holds
-by_found : {A : Type 0} (x : Found) → ((f : Frame) → x ≡ At f → A) → (x ≡ Nothing → A) → A
-by_found (At f) g h = g f refl
-by_found Nothing g h = h refl
+by_found : {A : Type 0} (x : Option Frame) → ((f : Frame) → x ≡ Some f → A) → (x ≡ None → A) → A
+by_found (Some f) g h = g f refl
+by_found None g h = h refl
 
 module _ (c : List ℕ) (k : ℕ) where
   -- a page that a copy claims has a frame
@@ -156,7 +154,7 @@ module _ (s : List ℕ) (b : Buffers) (r : Replay) (g : Good s b r) where
 
   module _ (out : List ℕ) (room : list_total (length (touched_keys r)) ≤ length out) where
     -- it passes every check
-    list_passes : list_check s b.control b.pool (length out) ≡ Pass
+    list_passes : list_check s b.control b.pool (length out) ≡ Ok tt
     unfolding list_check
     list_passes =
         need_on _ _ _ g.buffers ∙ need_on _ _ _ all_listable ∙ need_last _ _ (rw keys_right (le-leb _ _ room))

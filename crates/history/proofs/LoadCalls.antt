@@ -15,15 +15,14 @@ use Rattle.refusal.specs.Numbers.{done}
 use Rattle.address.specs.Address.{type_of, index_of, offset_of}
 use Rattle.control.specs.Buffers.{Buffers}
 use Rattle.frames.specs.Table.{frame_of}
-use Rattle.frames.specs.declared.claim.Found.{Found}
-use Rattle.frames.specs.declared.claim.Found.TheVariants.{At, Nothing}
 use Rattle.frames.proofs.Claims.{frame_found}
 use Rattle.segments.specs.Kinds.{kind_load, kind_load_span}
 use Rattle.translate.specs.Translate.{translate_of}
-use Rattle.translate.specs.declared.place.Translation.{Translation}
 use Rattle.translate.proofs.Answered.{allowed}
 use Rattle.translate.proofs.Accepted.{data_accepted}
-use Rattle.access.specs.Loads.{load_of, load_span_outcome, load_span_out}
+use Rattle.translate.specs.Place.{Outcome, outcome_of, Translation}
+use Rattle.access.proofs.Outcomes.{answered_outcome}
+use Rattle.access.specs.Loads.{value_in, load_of, load_span_outcome, load_span_out}
 use Rattle.access.proofs.Seen.{seen, load_value, load_span_bytes}
 use Rattle.records.specs.Layout.{Layout, record_length}
 use Rattle.records.specs.Calls.{blank, read_outcome, read_bytes}
@@ -34,6 +33,8 @@ use Rattle.history.specs.Records.{ReadsAreSpans}
 use Rattle.history.proofs.Good.{copy_of, Good}
 use Rattle.history.proofs.Pages.{touched_found}
 use Rattle.history.proofs.RecordCalls.{reads_are_spans}
+use Rattle.std.specs.Prelude.{None, Option, Some}
+use Rattle.pages.specs.declared.Frame.{Frame}
 
 -- ---- what is seen of a page is the plain copy
 
@@ -41,16 +42,16 @@ module _ {s : List ℕ} {b : Buffers} {r : Replay} (g : Good s b r) (a n : ℕ) 
   -- whatever n bytes determine reads the same from the frame, or else the original, and from the plain copy
   seen_plain : {X : Type 0} (read : List ℕ → ℕ → X)
       → ((x y : List ℕ) (i j : ℕ) → ((k : ℕ) → k < n → get_or x (i + k) 0 ≡ get_or y (j + k) 0) → read x i ≡ read y j)
-      → (f : Found) → frame_of b.control (copy_of (index_of a) (offset_of a / page_size)) ≡ f
+      → (f : Option Frame) → frame_of b.control (copy_of (index_of a) (offset_of a / page_size)) ≡ f
       → seen read s b.pool a f ≡ read (r.plain (index_of a)) (offset_of a)
-  seen_plain read ext (At f) e =
+  seen_plain read ext (Some f) e =
       let i = frame_found b.control _ f e in
       ext _ _ _ _
       (λ k l.
       let u : page_size * f.0 + offset_of a % page_size + k ≡ page_size * f.0 + (offset_of a % page_size + k) = omega arith in
       let v : offset_of a + k ≡ page_size * (offset_of a / page_size) + (offset_of a % page_size + k) = omega arith in
       rw (u, v) (g.held (index_of a) (offset_of a / page_size) f.0 i.below i.passes (offset_of a % page_size + k) (omega arith)))
-  seen_plain read ext Nothing e =
+  seen_plain read ext None e =
       ext _ _ _ _
       (λ k l.
       let ha : index_of a < 65536 = omega arith in
@@ -63,13 +64,13 @@ module _ {s : List ℕ} {b : Buffers} {r : Replay} (g : Good s b r) (a n : ℕ) 
 
 module _ {s : List ℕ} {b : Buffers} {r : Replay} (g : Good s b r) where
   -- an accepted load in type 3 gives the number that the plain copy's bytes spell
-  load_right : (a n : ℕ) → (load_of s b.control b.pool a n).outcome.number ≡ done → in_data a ≡ true
-      → (load_of s b.control b.pool a n).value ≡ word_at n (r.plain (index_of a)) (offset_of a)
+  load_right : (a n : ℕ) → (outcome_of (load_of s b.control b.pool a n)).number ≡ done → in_data a ≡ true
+      → value_in (load_of s b.control b.pool a n) ≡ word_at n (r.plain (index_of a)) (offset_of a)
   unfolding load_of
   load_right a n e h =
       let type : type_of a ≡ 3 = eqb-true (type_of a) 3 h in
       let t₀ : Translation = translate_of s b.control b.pool kind_load a n in
-      allowed t₀ e
+      allowed t₀ (ap (λ (o : Outcome). o.number) (sym (answered_outcome s b.control b.pool n t₀)) ∙ e)
       (λ q t.
       load_value s b.control b.pool a n type t
       ∙ seen_plain g a n (data_accepted s b.control b.pool kind_load a n t refl type).0.within (word_at n) (word_ext n) _ refl)

@@ -13,13 +13,13 @@ use Rattle.control.proofs.Facts.{buffers_facts}
 use Rattle.control.specs.Buffers.{Buffers}
 use Rattle.frames.specs.Table.{frame_entry_of, claims, frame_of, is_found}
 use Rattle.frames.specs.declared.claim.Claim.{Claim}
-use Rattle.frames.specs.declared.claim.Found.TheVariants.{At}
 use Rattle.frames.proofs.Entries.{EntryRange}
 use Rattle.frames.proofs.Found.{lowest_first}
 use Rattle.frames.proofs.Claims.{IsCopy, claims_copy, found_frame}
 use Rattle.changes.specs.Keys.{key_of, key_account, key_page, key_claim, key_limit, is_copied}
 use Rattle.history.specs.Replay.{Replay}
 use Rattle.history.proofs.Good.{copy_of, Good}
+use Rattle.std.specs.Prelude.{Some}
 
 -- ---- keys
 
@@ -44,7 +44,7 @@ module _ (a p : ℕ) (small_a : a < 65536) (small_p : p < 65536) where
 
 -- a page that an entry claims has a frame
 pub claim_found : (c : List ℕ) (q : Claim) (i : ℕ) → i < frames c → claims c q i ≡ true
-    → frame_of c q ≡ At (record { 0 = lowest (claims c q) (frames c) })
+    → frame_of c q ≡ Some (record { 0 = lowest (claims c q) (frames c) })
 claim_found c q i l h =
     found_frame c q (lowest (claims c q) (frames c)) (lowest_first (claims c q) (frames c) (lowest_some (claims c q) (frames c) i l h))
 

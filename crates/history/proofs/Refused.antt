@@ -10,19 +10,15 @@ use Rattle.words.specs.Words.{word_bytes}
 use Rattle.words.proofs.Word.{length-word_bytes}
 use Rattle.choice.proofs.Tests.{by_test, differ}
 use Rattle.refusal.specs.Numbers.{done}
-use Rattle.refusal.specs.Checks.{check_number, or_keep, need}
-use Rattle.refusal.specs.declared.Check.{Check}
-use Rattle.refusal.specs.declared.Check.TheVariants.{Pass, Stop}
+use Rattle.refusal.specs.Checks.{check_number, or_keep, need, Check}
 use Rattle.refusal.specs.declared.Refusal.TheVariants.{BadList}
 use Rattle.control.specs.Control.{size_of}
 use Rattle.control.specs.declared.shadow.Region.{Region}
 use Rattle.control.specs.Buffers.{Buffers}
 use Rattle.segments.specs.Kinds.{kind_load, kind_store, kind_fetch, kind_load_span, kind_store_span}
-use Rattle.translate.specs.Place.{number_of_answer}
+use Rattle.translate.specs.Place.{number_of_answer, Translation}
 use Rattle.translate.specs.Translate.{translate_of}
-use Rattle.translate.specs.declared.place.Translation.{Translation}
-use Rattle.translate.specs.declared.place.Translation.TheVariants.{Allowed, Refused}
-use Rattle.access.specs.Loads.{answered, load_of, fetch_of, filled, load_span_outcome, load_span_out}
+use Rattle.access.specs.Loads.{value_in, answered, load_of, fetch_of, filled, load_span_outcome, load_span_out}
 use Rattle.access.specs.Stores.{control_after, pool_after, store_outcome, store_control, store_pool}
 use Rattle.records.specs.Layout.{encoded, valid_fields}
 use Rattle.records.specs.Calls.{blank, judged, read_valid, read_outcome, read_bytes, write_outcome, write_control, write_pool}
@@ -31,48 +27,48 @@ use Rattle.regions.specs.Resize.{Resized, grow_check, grow_to, shrink_check, shr
 use Rattle.changes.specs.List.{list_check, change_list_number, change_list_out}
 use Rattle.apply.specs.Apply.{list_good, apply_number, apply_data}
 use Rattle.view.specs.View.{view_of, view_number, view_bytes}
+use Rattle.refusal.specs.declared.Refusal.{Refusal}
 use Rattle.view.specs.declared.View.{View}
-use Rattle.view.specs.declared.View.TheVariants as view
 use Rattle.hekthumar.specs.Steps.{Call, begin, translation, load, store, fetch, load_span, store_span, read_record, write_record, call, return, resize, change_list, page_view, step_of}
 use Rattle.history.specs.Calls.{accepted}
 use Rattle.history.specs.Refusals.{given, Unchanged, RefusedKeeps, ApplyKeeps}
 use Rattle.history.specs.Replay.{Replay}
 use Rattle.history.proofs.Good.{Good}
 use Rattle.history.proofs.Others.{GoodAfter}
+use Rattle.std.specs.Prelude.{Result, Err, Ok}
 
 -- ---- by the parts of a call
 
 -- a check that stops keeps a buffer
 stop_keeps : (x : Check) (old new : List ℕ) → eqb (check_number x) done ≡ false → or_keep x old new ≡ old
-stop_keeps Pass old new e = absurd (differ _ refl e)
-stop_keeps (Stop r) old new e = refl
+stop_keeps (Ok tt) old new e = absurd (differ _ refl e)
+stop_keeps (Err r) old new e = refl
 
 module _ (s c p : List ℕ) where
   -- a refused translation gives a load no value
-  no_value : (n : ℕ) (t : Translation) → eqb (answered s c p n t).outcome.number done ≡ false → (answered s c p n t).value ≡ 0
-  no_value n (Allowed q) e = absurd (differ _ refl e)
-  no_value n (Refused r) e = refl
+  no_value : (n : ℕ) (t : Translation) → eqb (number_of_answer (answered s c p n t)) done ≡ false → value_in (answered s c p n t) ≡ 0
+  no_value n (Ok q) e = absurd (differ _ refl e)
+  no_value n (Err r) e = refl
 
   -- and leaves the buffer of a span load
   not_filled : (out : List ℕ) (t : Translation) → eqb (number_of_answer t) done ≡ false → filled s c p out t ≡ out
-  not_filled out (Allowed q) e = absurd (differ _ refl e)
-  not_filled out (Refused r) e = refl
+  not_filled out (Ok q) e = absurd (differ _ refl e)
+  not_filled out (Err r) e = refl
 
   -- and leaves the control block of a store
   control_left : (t : Translation) → eqb (number_of_answer t) done ≡ false → control_after c t ≡ c
-  control_left (Allowed q) e = absurd (differ _ refl e)
-  control_left (Refused r) e = refl
+  control_left (Ok q) e = absurd (differ _ refl e)
+  control_left (Err r) e = refl
 
   -- and its pool
   pool_left : (bytes : List ℕ) (t : Translation) → eqb (number_of_answer t) done ≡ false → pool_after s p bytes t ≡ p
-  pool_left bytes (Allowed q) e = absurd (differ _ refl e)
-  pool_left bytes (Refused r) e = refl
+  pool_left bytes (Ok q) e = absurd (differ _ refl e)
+  pool_left bytes (Err r) e = refl
 
   -- a refused view is empty
-  no_view : (v : View) → eqb (view_number v) done ≡ false → view_bytes s p v ≡ []
-  no_view (view.InSnapshot at n) e = absurd (differ _ refl e)
-  no_view (view.InPool at n) e = absurd (differ _ refl e)
-  no_view (view.Refused r) e = refl
+  no_view : (v : Result View Refusal) → eqb (view_number v) done ≡ false → view_bytes s p v ≡ []
+  no_view (Ok v) e = absurd (differ _ refl e)
+  no_view (Err r) e = refl
 
 -- both buffers as they were
 record Left (c p : List ℕ) (o : Resized) : Type 0 where
@@ -81,7 +77,7 @@ record Left (c p : List ℕ) (o : Resized) : Type 0 where
 
 module _ (c p : List ℕ) where
   -- a resize refused by its size
-  resize_to_left : (r : Region) (n : ℕ) → eqb (resize_to c p r n).number done ≡ false → Left c p (resize_to c p r n)
+  resize_to_left : (r : Region) (n : ℕ) → eqb (check_number (resize_to c p r n).answer) done ≡ false → Left c p (resize_to c p r n)
   unfolding resize_to grow_to shrink_control
   resize_to_left r n =
       by_test (ltb (size_of c r) n)
@@ -92,10 +88,10 @@ module _ (c p : List ℕ) where
       (λ u. rw u (λ e. record { control = refl; pool = refl }))))
 
   -- or by the tests before it
-  resize_left : (x : Check) (o : Resized) → (eqb o.number done ≡ false → Left c p o) → eqb (or_refused x c p o).number done ≡ false
+  resize_left : (x : Check) (o : Resized) → (eqb (check_number o.answer) done ≡ false → Left c p o) → eqb (check_number (or_refused x c p o).answer) done ≡ false
       → Left c p (or_refused x c p o)
-  resize_left Pass o f e = f e
-  resize_left (Stop r) o f e = record { control = refl; pool = refl }
+  resize_left (Ok tt) o f e = f e
+  resize_left (Err r) o f e = record { control = refl; pool = refl }
 
 -- ---- the statement
 

@@ -15,10 +15,8 @@ use Rattle.refusal.specs.Numbers.{done}
 use Rattle.address.specs.Address.{type_of}
 use Rattle.control.specs.Buffers.{Buffers}
 use Rattle.segments.specs.Kinds.{kind_store, kind_store_span, is_store}
-use Rattle.translate.specs.Place.{number_of_answer}
+use Rattle.translate.specs.Place.{number_of_answer, Translation}
 use Rattle.translate.specs.Translate.{translate_of}
-use Rattle.translate.specs.declared.place.Translation.{Translation}
-use Rattle.translate.specs.declared.place.Translation.TheVariants.{Allowed, Refused}
 use Rattle.access.specs.Stores.{control_after, pool_after, store_outcome, store_control, store_pool}
 use Rattle.records.specs.Layout.{Layout, encoded}
 use Rattle.hekthumar.specs.Steps.{store, store_span, write_record, step_of}
@@ -30,6 +28,7 @@ use Rattle.history.proofs.Others.{GoodAfter}
 use Rattle.history.proofs.Refused.{keep_refused}
 use Rattle.history.proofs.RecordCalls.{writes_are_spans}
 use Rattle.history.proofs.Stored.{keep_store, keep_region_store}
+use Rattle.std.specs.Prelude.{Err, Ok}
 
 module _ {s : List ℕ} {b : Buffers} {r : Replay} (g : Good s b r) where
   -- by translation's answer: an accepted store goes by its type, and a refused one changes nothing
@@ -37,10 +36,10 @@ module _ {s : List ℕ} {b : Buffers} {r : Replay} (g : Good s b r) where
       → (t : Translation) → translate_of s b.control b.pool kind a n ≡ t
       → Good s (record { control = control_after b.control t; pool = pool_after s b.pool bytes t })
       (pick (eqb (number_of_answer t) done) (pick (in_data a) (stored r a bytes) r) r)
-  keep_answer kind a n bytes size k (Allowed q) e =
+  keep_answer kind a n bytes size k (Ok q) e =
       by_test (in_data a) (λ h. rw h (keep_store g kind a bytes n size k e (eqb-true (type_of a) 3 h)))
       (λ h. rw h (keep_region_store g kind a bytes n size k e (eqb-false (type_of a) 3 h)))
-  keep_answer kind a n bytes size k (Refused x) e = rw (refusal_number x) g
+  keep_answer kind a n bytes size k (Err x) e = rw (refusal_number x) g
 
   -- a store
   pub keep_store_call : (a n v : ℕ) → GoodAfter s b r (store a n v)

@@ -30,7 +30,6 @@ use Rattle.pages.specs.Pages.{original_page}
 use Rattle.frames.specs.declared.claim.Claim.TheVariants.{Copy}
 use Rattle.frames.specs.Table.{entry_end, frame_entry_of, usage_of, holds, claims, is_free, frame_of}
 use Rattle.frames.specs.declared.claim.Claim.{Claim}
-use Rattle.frames.specs.declared.claim.Found.TheVariants.{Nothing}
 use Rattle.frames.specs.declared.table.FrameEntry.{FrameEntry}
 use Rattle.frames.proofs.Entries.{EntryRange, entry_same, entry_other}
 use Rattle.frames.proofs.Untouched.{frames_kept, invocations_kept, invocation_kept, buffers_valid_kept}
@@ -41,7 +40,6 @@ use Rattle.segments.specs.Kinds.{is_store}
 use Rattle.translate.specs.declared.place.NewCopy.{NewCopy}
 use Rattle.translate.specs.Translate.{translate_of}
 use Rattle.translate.specs.declared.place.Place.{Place}
-use Rattle.translate.specs.declared.place.Translation.TheVariants.{Allowed}
 use Rattle.translate.proofs.Accepted.{DataAccess, accepted, data_accepted}
 use Rattle.translate.proofs.Stores.{StorePlace, into_copy, into_new, into_region, store_place}
 use Rattle.access.specs.Stores.{prepared_control, stored_at, copy_entry, taken_control, taken_pool}
@@ -51,6 +49,7 @@ use Rattle.changes.specs.Keys.{key_of, key_limit, key_claim, is_copied}
 use Rattle.history.specs.Replay.{Replay, stored}
 use Rattle.history.proofs.Good.{copy_of, LiveRecord, LivePage, Good}
 use Rattle.history.proofs.Pages.{key_claim_lem, pool_length_lem, touched_found, claim_touched}
+use Rattle.std.specs.Prelude.{None, Ok}
 
 -- a page is the one that is named, or is not
 page_cases : {A : Type 0} (a p d q : ℕ) → (d ≡ a → q ≡ p → A) → ((d ≡ a → q ≢ p) → A) → A
@@ -149,7 +148,7 @@ abbrev pub copied : List ℕ → Buffers → NewCopy → Buffers
 copied s b t = record { control = taken_control b.control t; pool = taken_pool s b.pool t }
 
 module _ {s : List ℕ} {b : Buffers} {r : Replay} (g : Good s b r) (t : NewCopy) (low : t.frame.0 < frames b.control)
-    (free : is_free b.control t.frame.0 ≡ true) (none : frame_of b.control (Copy t.account t.page) ≡ Nothing)
+    (free : is_free b.control t.frame.0 ≡ true) (none : frame_of b.control (Copy t.account t.page) ≡ None)
     (page : LivePage s t.account.0 t.page.0) where
   -- the account
   abbrev a : ℕ
@@ -410,7 +409,7 @@ module _ {s : List ℕ} {b : Buffers} {r : Replay} (g : Good s b r) (kind a : �
 
   -- a store that is accepted
   module _ (n : ℕ) (size : length bytes ≡ n) (store : is_store kind ≡ true) {q : Place}
-      (e : translate_of s b.control b.pool kind a n ≡ Allowed q) where
+      (e : translate_of s b.control b.pool kind a n ≡ Ok q) where
     place : StorePlace b.control kind a q
     place = store_place s b.control b.pool kind a n store e
 

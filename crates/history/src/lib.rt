@@ -1,4 +1,4 @@
-// The theorem over every history of calls: demand 3, the frame count rule, and that a refused call changes nothing. It holds
+// The theorem over every history of calls: the replay, the frame count rule, and that a refused call changes nothing. It holds
 // definitions and proofs, and no code: the calls are those of the crates below, by the definitions that their contracts cite.
 
 #![tactic(auto)]

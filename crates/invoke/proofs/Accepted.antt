@@ -4,7 +4,6 @@ use Rattle.std.proofs.Common.{ℕ, ◌≤◌, ◌<◌, ◌≡◌, true, List, ar
 use Rattle.layout.specs.Page.{pool_length}
 use Rattle.layout.specs.Control.{table_at, frame_limit, live_limit, registers_size, control_length}
 use Rattle.choice.proofs.Tests.{both_true}
-use Rattle.refusal.specs.declared.Check.TheVariants.{Pass}
 use Rattle.refusal.proofs.Checks.{need_then, need_pass, then_pass}
 use Rattle.snapshot.specs.Header.{accounts, snapshot_valid}
 use Rattle.snapshot.specs.declared.accounts.Account.{Account}
@@ -14,10 +13,11 @@ use Rattle.control.specs.Control.{invocations, edition_known}
 use Rattle.control.proofs.Facts.{ControlFacts, BuffersFacts, control_facts, buffers_facts}
 use Rattle.invoke.specs.Invoke.{program_check, frames_in, room_valid, start_check, begin_check, call_check, return_check}
 use Rattle.invoke.specs.declared.begin.Start.{Start}
+use Rattle.std.specs.Prelude.{Ok}
 
 -- ---- the program
 
-module _ (s : List ℕ) (a : Account) (e : program_check s a ≡ Pass) where
+module _ (s : List ℕ) (a : Account) (e : program_check s a ≡ Ok tt) where
   -- it is below the account count
   pub program_known : a.0 < accounts s
   unfolding program_check
@@ -55,10 +55,10 @@ pub record BeginFacts (s : List ℕ) (control pool : ℕ) (x : Start) : Type 0 w
   pub room : room_valid control pool ≡ true
   pub few_pages : x.pages ≤ 1
   pub edition : edition_known x.edition ≡ true
-  pub program : program_check s x.program ≡ Pass
+  pub program : program_check s x.program ≡ Ok tt
   pub free : x.pages ≤ frames_in control
 
-pub begin_facts : (s : List ℕ) (control pool : ℕ) (x : Start) → begin_check s control pool x ≡ Pass → BeginFacts s control pool x
+pub begin_facts : (s : List ℕ) (control pool : ℕ) (x : Start) → begin_check s control pool x ≡ Ok tt → BeginFacts s control pool x
 unfolding begin_check start_check
 begin_facts s control pool x e =
     let t₁ = need_then _ _ _ e in
@@ -92,9 +92,9 @@ module _ (s c p : List ℕ) where
     pub control : ControlFacts c
     pub registers : size ≡ registers_size
     pub below : invocations c < live_limit
-    pub program : program_check s a ≡ Pass
+    pub program : program_check s a ≡ Ok tt
 
-  pub call_facts : (a : Account) (size : ℕ) → call_check s c p a size ≡ Pass → CallFacts a size
+  pub call_facts : (a : Account) (size : ℕ) → call_check s c p a size ≡ Ok tt → CallFacts a size
   unfolding call_check
   call_facts a size e =
       let t₁ = need_then _ _ _ e in
@@ -116,7 +116,7 @@ module _ (s c p : List ℕ) where
     pub registers : size ≡ registers_size
     pub above : 1 < invocations c
 
-  pub return_facts : (size : ℕ) → return_check s c p size ≡ Pass → ReturnFacts size
+  pub return_facts : (size : ℕ) → return_check s c p size ≡ Ok tt → ReturnFacts size
   unfolding return_check
   return_facts size e =
       let t₁ = need_then _ _ _ e in

@@ -5,14 +5,11 @@ use Rattle.std.proofs.Math.Decide.{ℕ_discrete}
 use Rattle.layout.specs.Page.{page_size}
 use Rattle.words.specs.Words.{splice, zeros}
 use Rattle.choice.proofs.Counting.{count_hit, count_grows}
-use Rattle.refusal.specs.Numbers.{done}
-use Rattle.refusal.specs.declared.Check.TheVariants.{Pass}
 use Rattle.refusal.proofs.Checks.{need_last}
 use Rattle.control.specs.Control.{frames, invocations, set_pages, size_of}
 use Rattle.control.specs.declared.shadow.Region.TheVariants.{Stack}
 use Rattle.frames.specs.Table.{is_free, free_frame, free_count, put_frame_entry}
 use Rattle.frames.specs.declared.claim.End.TheVariants.{Lowest}
-use Rattle.frames.specs.declared.claim.Found.TheVariants.{At}
 use Rattle.frames.proofs.Found.{first_at}
 use Rattle.frames.proofs.OnlyTable.{table_put, table_invocations}
 use Rattle.regions.specs.Resize.{Resized, grow_one, grown, grow_check, grow_to, resize_to}
@@ -21,6 +18,7 @@ use Rattle.invoke.specs.Begun.{NoPage, OnePage, stack_entry}
 use Rattle.invoke.specs.declared.begin.Start.{Start}
 use Rattle.invoke.proofs.Accepted.{BeginFacts, begin_facts, StartFits, begin_fits}
 use Rattle.invoke.proofs.Fresh.{fresh-frames, fresh-invocations, fresh_size, fresh_free}
+use Rattle.std.specs.Prelude.{Ok, Some}
 
 module _ (size : ℕ) (p : List ℕ) (x : Start) (valid : room_valid size (length p) ≡ true) (fits : StartFits x) where
   -- the control block before its stack is resized
@@ -41,7 +39,7 @@ module _ (size : ℕ) (p : List ℕ) (x : Start) (valid : room_valid size (lengt
 
   module _ (some : 1 ≤ frames_in size) where
     -- so the first is found
-    first_free : free_frame Lowest bare ≡ At (record { 0 = 0 })
+    first_free : free_frame Lowest bare ≡ Some (record { 0 = 0 })
     unfolding free_frame
     first_free =
         first_at (is_free bare) (frames bare) 0 (record { below = omega (arith, room); passes = free 0; before = λ j l. absurd (omega arith) })
@@ -52,7 +50,7 @@ module _ (size : ℕ) (p : List ℕ) (x : Start) (valid : room_valid size (lengt
     some_free = omega (arith, room, count_hit (is_free bare) 0 (free 0), count_grows (is_free bare) 1 (frames bare) (omega (arith, room)))
 
     -- there is a frame for one page
-    pub one_grows : grow_check bare Stack 1 ≡ Pass
+    pub one_grows : grow_check bare Stack 1 ≡ Ok tt
     unfolding grow_check
     one_grows = need_last _ _ (le-leb (1 - size_of bare Stack) (free_count bare) (omega (arith, no_stack, some_free)))
 
@@ -65,29 +63,29 @@ module _ (size : ℕ) (p : List ℕ) (x : Start) (valid : room_valid size (lengt
   paged_live = table_invocations (table_put bare 0 stack_entry) ∙ fresh-invocations size (length p) x valid fits
 
   -- resized to no page
-  none : resize_to bare p Stack 0 ≡ record { number = done; after = record { control = bare; pool = p } }
+  none : resize_to bare p Stack 0 ≡ record { answer = Ok tt; after = record { control = bare; pool = p } }
   unfolding resize_to
   none = rw no_stack
 
   -- resized to one
   one : 1 ≤ frames_in size
       → resize_to bare p Stack 1
-      ≡ record { number = done; after = record { control = set_pages paged 1 Stack 1; pool = splice p 0 (zeros page_size) } }
+      ≡ record { answer = Ok tt; after = record { control = set_pages paged 1 Stack 1; pool = splice p 0 (zeros page_size) } }
   unfolding resize_to grow_to grown grow_one
   one some = rw (no_stack, one_grows some, first_free some, fresh-invocations size (length p) x valid fits, paged_live)
 
   -- the same of the pages that a begin is given
-  to_none : x.pages ≡ 0 → resize_to bare p Stack x.pages ≡ record { number = done; after = record { control = bare; pool = p } }
+  to_none : x.pages ≡ 0 → resize_to bare p Stack x.pages ≡ record { answer = Ok tt; after = record { control = bare; pool = p } }
   to_none z = ap (λ (n : ℕ). resize_to bare p Stack n) z ∙ none
 
   to_one : x.pages ≡ 1 → x.pages ≤ frames_in size
       → resize_to bare p Stack x.pages
-      ≡ record { number = done; after = record { control = set_pages paged 1 Stack 1; pool = splice p 0 (zeros page_size) } }
+      ≡ record { answer = Ok tt; after = record { control = set_pages paged 1 Stack 1; pool = splice p 0 (zeros page_size) } }
   to_one z some = ap (λ (n : ℕ). resize_to bare p Stack n) z ∙ one (omega arith)
 
 -- ---- an accepted begin
 
-module _ (s c p : List ℕ) (x : Start) (e : begin_check s (length c) (length p) x ≡ Pass) where
+module _ (s c p : List ℕ) (x : Start) (e : begin_check s (length c) (length p) x ≡ Ok tt) where
   -- what the check has shown
   facts : BeginFacts s (length c) (length p) x
   facts = begin_facts s (length c) (length p) x e
@@ -97,14 +95,14 @@ module _ (s c p : List ℕ) (x : Start) (e : begin_check s (length c) (length p)
   start_fits = begin_fits facts
 
   -- its stack can be resized
-  pub begun_number : (resize_to (fresh (length c) x) p Stack x.pages).number ≡ done
-  begun_number =
+  pub begun_passes : (resize_to (fresh (length c) x) p Stack x.pages).answer ≡ Ok tt
+  begun_passes =
       elim (ℕ_discrete x.pages 0) [
         | yes z ↦ rw (to_none (length c) p x facts.room start_fits z)
         | no z ↦ rw (to_one (length c) p x facts.room start_fits (omega (arith, facts.few_pages)) facts.free)
       ]
 
-  -- with no page it is document 01's begin
+  -- with no page that is all
   pub begin_none : x.pages ≡ 0 → NoPage s c p x
   unfolding begin_control begin_pool begun
   begin_none z =

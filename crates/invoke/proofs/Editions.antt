@@ -3,9 +3,7 @@
 use Rattle.std.proofs.Common.{ℕ, ◌+◌, ◌-◌, ◌≡◌, refl, ap, ◌∙◌, List, arith, length}
 use Rattle.std.proofs.Math.Decide.{ℕ_discrete}
 use Rattle.layout.specs.Control.{registers_size}
-use Rattle.refusal.specs.Checks.{or_keep}
-use Rattle.refusal.specs.declared.Check.{Check}
-use Rattle.refusal.specs.declared.Check.TheVariants.{Pass}
+use Rattle.refusal.specs.Checks.{or_keep, Check}
 use Rattle.refusal.proofs.Checks.{by_check}
 use Rattle.snapshot.specs.declared.accounts.Account.{Account}
 use Rattle.control.specs.Control.{frames, invocations, depth, edition, current, put_invocation, clear_invocation}
@@ -22,9 +20,10 @@ use Rattle.invoke.proofs.Fresh.{fresh-edition}
 use Rattle.invoke.proofs.Begun.{start_fits, begin_none, begin_one}
 use Rattle.invoke.proofs.Freed.{freed_only}
 use Rattle.invoke.proofs.Depth.{callee}
+use Rattle.std.specs.Prelude.{Ok}
 
 -- a call that keeps it where it is accepted: refused, it keeps the whole block
-pub or_edition : (k : Check) (c c' : List ℕ) → (k ≡ Pass → edition c' ≡ edition c) → edition (or_keep k c c') ≡ edition c
+pub or_edition : (k : Check) (c c' : List ℕ) → (k ≡ Ok tt → edition c' ≡ edition c) → edition (or_keep k c c') ≡ edition c
 or_edition k c c' h = by_check k (λ e. rw e (h e)) (λ r e. rw e refl)
 
 -- ---- the three

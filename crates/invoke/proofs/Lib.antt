@@ -5,3 +5,4 @@ pub mod Freed
 pub mod Depth
 pub mod Editions
 pub mod Decided
+pub mod Outcomes

@@ -1,4 +1,4 @@
--- Document 02, "Two": what an accepted begin leaves, with no page and with one. Both follow from the definition by resizing. Assumes nothing.
+-- Rules: "Begin, call, return, resize": what an accepted begin leaves, with no page and with one. Both follow from the definition by resizing. Assumes nothing.
 use Rattle.std.specs.Prelude.{ℕ, ◌≡◌, List, length}
 use Rattle.layout.specs.Page.{page_size}
 use Rattle.words.specs.Words.{splice, zeros}
@@ -9,7 +9,7 @@ use Rattle.frames.specs.declared.table.FrameEntry.{FrameEntry}
 use Rattle.invoke.specs.Invoke.{fresh, begin_control, begin_pool}
 use Rattle.invoke.specs.declared.begin.Start.{Start}
 
--- "Callers that counted on an empty stack": document 01's begin, "Pool stays."
+-- "With no page that is all, and the pool stays"
 pub record NoPage (s c p : List ℕ) (x : Start) : Type 0 where
   pub control : begin_control s c p x ≡ fresh (length c) x
   pub pool : begin_pool s c p x ≡ p

@@ -1,6 +1,5 @@
--- Document 02, "Six": "Both begins take the edition"; a call and a return keep it. Assumes nothing.
-use Rattle.std.specs.Prelude.{ℕ, ◌≡◌, List, length}
-use Rattle.refusal.specs.declared.Check.TheVariants.{Pass}
+-- Rules: "Begin, call, return, resize": an accepted begin gives the edition that it takes; a call and a return keep it. Assumes nothing.
+use Rattle.std.specs.Prelude.{ℕ, ◌≡◌, List, length, Ok}
 use Rattle.snapshot.specs.declared.accounts.Account.{Account}
 use Rattle.control.specs.Control.{edition}
 use Rattle.invoke.specs.Invoke.{begin_check, begin_control, call_control, return_control}
@@ -8,7 +7,7 @@ use Rattle.invoke.specs.declared.begin.Start.{Start}
 
 -- after an accepted begin the control block has the edition that was asked for
 abbrev pub BeginEdition : Type 0
-BeginEdition = (s c p : List ℕ) (x : Start) → begin_check s (length c) (length p) x ≡ Pass → edition (begin_control s c p x) ≡ x.edition
+BeginEdition = (s c p : List ℕ) (x : Start) → begin_check s (length c) (length p) x ≡ Ok tt → edition (begin_control s c p x) ≡ x.edition
 
 -- a call keeps it, accepted or refused, whatever the buffers hold
 abbrev pub CallEdition : Type 0

@@ -1,12 +1,10 @@
--- Document 01, "Begin, call, return, resize": begin, call and return; document 02, "Two": begin's stack, "Four": what a return leaves, "Six":
--- begin's edition. Assumes nothing.
+-- Rules: "Begin, call, return, resize": begin, call and return. Assumes nothing.
 use Rattle.std.specs.Prelude.{ℕ, zero, suc, ◌+◌, ◌-◌, ◌/◌, Bool, List, ◌++◌, length, nat_lt, nat_le, nat_eq}
 use Rattle.layout.specs.Page.{pool_length}
 use Rattle.layout.specs.Control.{shadow_at, table_at, frame_entry_size, frame_limit, live_limit, registers_size, control_length}
 use Rattle.words.specs.Words.{word_bytes, splice, zeros}
 use Rattle.choice.specs.Choice.{pick, both}
-use Rattle.refusal.specs.Checks.{need, ◌then◌, check_number, or_keep}
-use Rattle.refusal.specs.declared.Check.{Check}
+use Rattle.refusal.specs.Checks.{need, ◌then◌, check_number, or_keep, Check}
 use Rattle.refusal.specs.declared.Refusal.TheVariants.{Invalid, BadRequest, NoSegment, NoFrame, DepthLimit}
 use Rattle.snapshot.specs.Header.{snapshot_valid}
 use Rattle.snapshot.specs.Accounts.{entry_of, exists}

@@ -3,7 +3,7 @@ ghost use Rattle.std.specs.Prelude.{◌≡◌, true, List, ℕ, ◌≤◌, lengt
 ghost use Rattle.layout.specs.Control.{frame_limit};
 ghost use Rattle.control.specs.Control.{control_valid, frames};
 ghost use Rattle.frames.specs.Table.{frame_entry_at, frame_entry_of, entry_end};
-ghost use Rattle.invoke.specs.Invoke.{call_check, call_number, call_control, return_check, return_number, return_control, return_out, leaves, freed_below};
+ghost use Rattle.invoke.specs.Invoke.{call_check, call_control, return_check, return_control, return_out, leaves, freed_below};
 
 use super::program::program_check;
 use control::buffers::buffers_valid;
@@ -16,36 +16,39 @@ use frame_search::search::GROUP;
 use frames::table::{entry_at, free_frame_entry, usage_at};
 use layout::control::{INVOCATIONS, REGISTERS, STACK};
 use pages::Frame;
-use refusal::{Check, DONE, Refusal, number};
+use refusal::Refusal;
 use snapshot::accounts::Account;
 
 // The tests of a call, in order.
-#[tactic(auto, using(crate::proofs::Decided::program_decides))]
-fn call_check(s: &[u8], c: &[u8], pool: &[u8], program: Account, size: usize) -> Check
+#[tactic(auto, using(crate::proofs::Decided::call_tests))]
+fn call_check(s: &[u8], c: &[u8], pool: &[u8], program: Account, size: usize) -> Result<(), Refusal>
     ensures { result ≡ call_check s.now c.now pool.now program size }
 {
-    if buffers_valid(s, c, pool) {
-        if size != REGISTERS {
-            return Check::Stop(Refusal::BadRequest);
-        }
-        if invocation_count(c) < INVOCATIONS {
-            return program_check(s, program);
-        }
-        return Check::Stop(Refusal::DepthLimit);
+    if !buffers_valid(s, c, pool) {
+        return Err(Refusal::Invalid);
     }
-    Check::Stop(Refusal::Invalid)
+    if size != REGISTERS {
+        return Err(Refusal::BadRequest);
+    }
+    if invocation_count(c) < INVOCATIONS {
+        return program_check(s, program);
+    }
+    Err(Refusal::DepthLimit)
 }
 
 // Calls a program: the new record holds it, the caller's two sizes and the registers.
-#[tactic(auto, using(crate::proofs::Accepted::call_facts))]
-pub fn call(s: &[u8], c: &mut [u8], pool: &[u8], program: Account, registers: &[u8]) -> u8
-    ensures value { result ≡ call_number s.now c.old pool.now program registers.now }
+#[tactic(auto, using(crate::proofs::Outcomes::call_steps))]
+pub fn call(
+    s: &[u8],
+    c: &mut [u8],
+    pool: &[u8],
+    program: Account,
+    registers: &[u8],
+) -> Result<(), Refusal>
+    ensures value { result ≡ call_check s.now c.old pool.now program (length registers.now) }
     ensures c_after { c.new ≡ call_control s.now c.old pool.now program registers.now }
 {
-    let check = call_check(s, c, pool, program, registers.len());
-    if let Check::Stop(r) = check {
-        return number(r);
-    }
+    call_check(s, c, pool, program, registers.len())?;
     let live = invocation_count(c);
     let caller = invocation_at(c, live);
     put_invocation(
@@ -59,23 +62,24 @@ pub fn call(s: &[u8], c: &mut [u8], pool: &[u8], program: Account, registers: &[
         registers,
     );
     set_invocations(c, live + 1);
-    DONE
+    Ok(())
 }
 
 // The tests of a return, in order.
-fn return_check(s: &[u8], c: &[u8], pool: &[u8], size: usize) -> Check
+#[tactic(auto, using(crate::proofs::Decided::return_tests))]
+fn return_check(s: &[u8], c: &[u8], pool: &[u8], size: usize) -> Result<(), Refusal>
     ensures { result ≡ return_check s.now c.now pool.now size }
 {
-    if buffers_valid(s, c, pool) {
-        if size != REGISTERS {
-            return Check::Stop(Refusal::BadRequest);
-        }
-        if 1 < invocation_count(c) {
-            return Check::Pass;
-        }
-        return Check::Stop(Refusal::DepthLimit);
+    if !buffers_valid(s, c, pool) {
+        return Err(Refusal::Invalid);
     }
-    Check::Stop(Refusal::Invalid)
+    if size != REGISTERS {
+        return Err(Refusal::BadRequest);
+    }
+    if 1 < invocation_count(c) {
+        return Ok(());
+    }
+    Err(Refusal::DepthLimit)
 }
 
 // Whether entry i is a stack frame's, with a tag at or above the depth.
@@ -84,10 +88,7 @@ fn leaves_at(c: &[u8], i: usize, depth: usize) -> bool
     requires { entry_end i ≤ length c.now }
     ensures { result ≡ leaves depth (frame_entry_of c.now i) }
 {
-    if usage_at(c, i) == STACK {
-        return depth <= entry_at(c, i).tag as usize;
-    }
-    false
+    usage_at(c, i) == STACK && depth <= usize::from(entry_at(c, i).tag)
 }
 
 // Frees those of the entries from `from` on and below `to` that leave, one by one. Where those below `from` are done, all below `to` are.
@@ -95,12 +96,10 @@ fn free_within(c: &mut [u8], from: usize, to: usize, depth: usize)
     requires { (from ≤ to) × (to ≤ frame_limit) × (frame_entry_at to ≤ length c.old) }
     ensures { (c₀ : List ℕ) → c.old ≡ freed_below depth c₀ from → c.new ≡ freed_below depth c₀ to }
 {
-    let mut i = from;
-    while i < to {
+    for i in from..to {
         if leaves_at(c, i, depth) {
             free_frame_entry(c, Frame(i as u16));
         }
-        i += 1;
     }
 }
 
@@ -111,27 +110,23 @@ fn free_leaving(c: &mut [u8], depth: usize)
     ensures { c.new ≡ freed_below depth c.old (frames c.old) }
 {
     let frames = frame_count(c);
-    let mut i = 0;
-    while i + GROUP <= frames {
+    for group in 0..frames / GROUP {
+        let i = GROUP * group;
         if group_may_hold_regions(c, i) {
             free_within(c, i, i + GROUP, depth);
         }
-        i += GROUP;
     }
-    free_within(c, i, frames, depth);
+    free_within(c, frames - frames % GROUP, frames, depth);
 }
 
 // Returns from the current invocation, handing its registers back, and its heap over to its caller.
-#[tactic(auto, using(crate::proofs::Accepted::return_facts))]
-pub fn return_from(s: &[u8], c: &mut [u8], pool: &[u8], registers: &mut [u8]) -> u8
-    ensures value { result ≡ return_number s.now c.old pool.now registers.old }
+#[tactic(auto, using(crate::proofs::Outcomes::return_steps))]
+pub fn return_from(s: &[u8], c: &mut [u8], pool: &[u8], registers: &mut [u8]) -> Result<(), Refusal>
+    ensures value { result ≡ return_check s.now c.old pool.now (length registers.old) }
     ensures c_after { c.new ≡ return_control s.now c.old pool.now registers.old }
     ensures registers_after { registers.new ≡ return_out s.now c.old pool.now registers.old }
 {
-    let check = return_check(s, c, pool, registers.len());
-    if let Check::Stop(r) = check {
-        return number(r);
-    }
+    return_check(s, c, pool, registers.len())?;
     let live = invocation_count(c);
     let heap = invocation_at(c, live).heap;
     read_registers(c, live, registers);
@@ -139,5 +134,5 @@ pub fn return_from(s: &[u8], c: &mut [u8], pool: &[u8], registers: &mut [u8]) ->
     set_pages(c, live - 1, Region::Heap, heap);
     clear_invocation(c, live);
     set_invocations(c, live - 1);
-    DONE
+    Ok(())
 }

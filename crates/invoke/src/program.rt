@@ -3,22 +3,19 @@ ghost use Rattle.std.specs.Prelude.{◌≡◌, true};
 ghost use Rattle.snapshot.specs.Header.{snapshot_valid};
 ghost use Rattle.invoke.specs.Invoke.{program_check};
 
-use refusal::{Check, Refusal};
+use refusal::Refusal;
 use snapshot::accounts::Account;
-use snapshot::lookup::{Lookup, look_up};
+use snapshot::lookup::look_up;
 
 // The account is below the account count, its entry is valid, and it exists.
-pub fn program_check(s: &[u8], a: Account) -> Check
+pub fn program_check(s: &[u8], a: Account) -> Result<(), Refusal>
     requires { snapshot_valid s.now ≡ true }
     ensures { result ≡ program_check s.now a }
 {
-    match look_up(s, a) {
-        Lookup::Valid(e) => {
-            if e.exists() {
-                return Check::Pass;
-            }
-            Check::Stop(Refusal::NoSegment)
-        }
-        Lookup::Refused(r) => Check::Stop(r),
+    let entry = look_up(s, a)?;
+    if entry.exists() {
+        Ok(())
+    } else {
+        Err(Refusal::NoSegment)
     }
 }

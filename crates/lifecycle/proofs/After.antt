@@ -1,6 +1,5 @@
 -- Both regions stay right over each call, accepted or refused; an accepted begin makes them so. Assumes nothing.
 use Rattle.std.proofs.Common.{ℕ, ◌≡◌, List, arith, length}
-use Rattle.refusal.specs.declared.Check.TheVariants.{Pass}
 use Rattle.refusal.proofs.Checks.{by_check}
 use Rattle.snapshot.specs.declared.accounts.Account.{Account}
 use Rattle.control.specs.declared.shadow.Region.TheVariants.{Stack}
@@ -15,10 +14,11 @@ use Rattle.lifecycle.proofs.Begun.{fresh_right}
 use Rattle.lifecycle.proofs.Called.{called_right}
 use Rattle.lifecycle.proofs.Returned.{returned_right}
 use Rattle.lifecycle.proofs.Resized.{or_right, resized_to_right, resized_right}
+use Rattle.std.specs.Prelude.{Ok}
 
 module _ (s c p : List ℕ) where
   -- an accepted begin: its stack is resized in a fresh control block
-  pub begun_right : (x : Start) → begin_check s (length c) (length p) x ≡ Pass → Rights (begun (length c) p x).control
+  pub begun_right : (x : Start) → begin_check s (length c) (length p) x ≡ Ok tt → Rights (begun (length c) p x).control
   unfolding begun
   begun_right x accepted =
       let f : BeginFacts s (length c) (length p) x = begin_facts s (length c) (length p) x accepted in

@@ -1,7 +1,6 @@
 -- Both regions stay right over a call: every entry stays, and the new record repeats the caller's sizes. Assumes nothing.
 use Rattle.std.proofs.Common.{ℕ, ◌+◌, ◌≤◌, ◌<◌, ◌≡◌, refl, ap, ◌∙◌, inl, List, arith, length}
 use Rattle.std.proofs.Math.Decide.{ℕ_discrete}
-use Rattle.refusal.specs.declared.Check.TheVariants.{Pass}
 use Rattle.snapshot.specs.declared.accounts.Account.{Account}
 use Rattle.control.specs.Control.{frames, invocations, pages_of, size_of, size_in}
 use Rattle.control.specs.declared.shadow.Region.{Region}
@@ -14,13 +13,14 @@ use Rattle.invoke.proofs.Depth.{callee, called-frames, called-invocations, calle
 use Rattle.lifecycle.specs.Regions.{Rights}
 use Rattle.lifecycle.proofs.Moves.{usage_same, Same, same_held}
 use Rattle.lifecycle.proofs.Tagged.{Repeats, repeats_tagged}
+use Rattle.std.specs.Prelude.{Ok}
 
 -- the callee's size of a region is the caller's
 callee_size : (c : List ℕ) (a : Account) (r : Region) → pages_of (callee c a) r ≡ size_of c r
 callee_size c a Stack = refl
 callee_size c a Heap = refl
 
-module _ (s c p : List ℕ) (a : Account) (registers : List ℕ) (accepted : call_check s c p a (length registers) ≡ Pass) where
+module _ (s c p : List ℕ) (a : Account) (registers : List ℕ) (accepted : call_check s c p a (length registers) ≡ Ok tt) where
   -- what the checks have shown
   facts : CallFacts s c p a (length registers)
   facts = call_facts s c p a (length registers) accepted

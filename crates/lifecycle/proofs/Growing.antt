@@ -4,7 +4,6 @@ use Rattle.std.proofs.Common.{ℕ, suc, ◌+◌, ◌-◌, ◌≤◌, ◌<◌, �
 use Rattle.std.proofs.Math.Decide.{dec_lt}
 use Rattle.layout.specs.Page.{page_limit, pool_length}
 use Rattle.choice.proofs.Tests.{by_test, fails}
-use Rattle.refusal.specs.declared.Check.TheVariants.{Pass}
 use Rattle.refusal.proofs.Checks.{need_pass}
 use Rattle.control.specs.Buffers.{Buffers}
 use Rattle.control.specs.Control.{frames, invocations, depth, control_valid, size_of, size_in}
@@ -21,6 +20,7 @@ use Rattle.lifecycle.proofs.Depths.{grown_is}
 use Rattle.lifecycle.proofs.Moves.{usage_same, free_foreign, one_page_lem, held_kept, Untouched}
 use Rattle.lifecycle.proofs.Tagged.{tag_same}
 use Rattle.lifecycle.proofs.Sized.{Sized, sized_is, sized_right, sized_rise, sized-depth}
+use Rattle.std.specs.Prelude.{Ok}
 
 -- a region's use is one of those named
 region_use : (r : Region) → usage_of r ≤ usage_of Heap
@@ -54,7 +54,7 @@ abbrev grown_to : List ℕ → List ℕ → Region → ℕ → Buffers
 grown_to c p r n = grown r (size_of c r) c p (n - size_of c r)
 
 module _ (c p : List ℕ) (r : Region) (n : ℕ) (valid : control_valid c ≡ true) (pool : length p ≡ pool_length (frames c))
-    (more : size_of c r ≤ n) (most : n ≤ page_limit) (accepted : grow_check c r n ≡ Pass) {x : List ℕ}
+    (more : size_of c r ≤ n) (most : n ≤ page_limit) (accepted : grow_check c r n ≡ Ok tt) {x : List ℕ}
     (s : Sized c (grown_to c p r n).control x r n) where
   -- a page that one of the free frames holds
   new_page : (k : ℕ) → Held c (depth c) r (page_at r k) (grown_to c p r n) → NewPage c x r k
@@ -191,7 +191,7 @@ module _ {c v x : List ℕ} {r : Region} {n : ℕ} (s : Sized c v x r n) (more :
 
 -- both regions stay right
 pub grown_right : (c p : List ℕ) (r : Region) (n : ℕ) → control_valid c ≡ true → length p ≡ pool_length (frames c) → size_of c r ≤ n
-    → n ≤ page_limit → grow_check c r n ≡ Pass → Rights c
+    → n ≤ page_limit → grow_check c r n ≡ Ok tt → Rights c
     → Rights (sized (grown r (size_of c r) c p (n - size_of c r)).control r n)
 grown_right c p r n valid pool more most accepted h =
     let v : List ℕ = (grown_to c p r n).control in

@@ -3,9 +3,7 @@
 use Rattle.std.proofs.Common.{ℕ, ◌≤◌, ◌≡◌, refl, true, List, arith, length, ltb, leb-true, ltb-true}
 use Rattle.layout.specs.Page.{page_limit, pool_length}
 use Rattle.choice.proofs.Tests.{by_test}
-use Rattle.refusal.specs.Checks.{or_keep}
-use Rattle.refusal.specs.declared.Check.{Check}
-use Rattle.refusal.specs.declared.Check.TheVariants.{Pass, Stop}
+use Rattle.refusal.specs.Checks.{or_keep, Check}
 use Rattle.refusal.proofs.Checks.{need_then, need_pass}
 use Rattle.control.specs.Control.{frames, control_valid, size_of}
 use Rattle.control.specs.declared.shadow.Region.{Region}
@@ -14,11 +12,12 @@ use Rattle.regions.specs.Resize.{grow_check, shrink_check, grow_to, shrink_contr
 use Rattle.lifecycle.specs.Regions.{Rights}
 use Rattle.lifecycle.proofs.Growing.{grown_right}
 use Rattle.lifecycle.proofs.Shrinking.{shrunk_right}
+use Rattle.std.specs.Prelude.{Err, Ok}
 
 -- what holds before a call, and after it where it is accepted, holds
-pub or_right : (q : Check) (old new : List ℕ) → (q ≡ Pass → Rights new) → Rights old → Rights (or_keep q old new)
-or_right Pass old new f h = f refl
-or_right (Stop r) old new f h = h
+pub or_right : (q : Check) (old new : List ℕ) → (q ≡ Ok tt → Rights new) → Rights old → Rights (or_keep q old new)
+or_right (Ok tt) old new f h = f refl
+or_right (Err r) old new f h = h
 
 -- both regions stay right where one is resized to n pages
 pub resized_to_right : (c p : List ℕ) (r : Region) (n : ℕ) → control_valid c ≡ true → length p ≡ pool_length (frames c) → n ≤ page_limit → Rights c
@@ -36,7 +35,7 @@ resized_to_right c p r n valid pool most h =
     (λ d. rw d h)))
 
 -- and over a resize whose request is valid
-pub resized_right : (s c p : List ℕ) (code n : ℕ) → resize_check s c p code n ≡ Pass → Rights c
+pub resized_right : (s c p : List ℕ) (code n : ℕ) → resize_check s c p code n ≡ Ok tt → Rights c
     → Rights (resize_to c p (region_of code) n).after.control
 unfolding resize_check
 resized_right s c p code n accepted h =

@@ -5,7 +5,6 @@ use Rattle.std.proofs.Common.{ℕ, suc, ◌-◌, ◌≤◌, ◌<◌, ◌≡◌, 
 use Rattle.std.proofs.Math.Decide.{dec_lt, ℕ_discrete}
 use borrow.Author.Tests.{lt-leb}
 use Rattle.choice.proofs.Tests.{by_test, differ, pick_true, pick_false}
-use Rattle.refusal.specs.declared.Check.TheVariants.{Pass}
 use Rattle.control.specs.Control.{frames, invocations, depth, control_valid, current_valid, size_of, size_in}
 use Rattle.control.specs.declared.shadow.Region.{Region}
 use Rattle.control.specs.declared.shadow.Region.TheVariants.{Stack, Heap}
@@ -21,6 +20,7 @@ use Rattle.lifecycle.specs.Regions.{grown_at, holds_page, RegionHeld, RegionTagg
 use Rattle.lifecycle.proofs.Depths.{grown-le, grown_hits, grown_kept}
 use Rattle.lifecycle.proofs.Moves.{usage_same, Moves, moved_held, Same, same_held}
 use Rattle.lifecycle.proofs.Tagged.{moved_tagged}
+use Rattle.std.specs.Prelude.{Ok}
 
 -- ---- what a return needs of the stack's tags and sizes
 
@@ -160,7 +160,7 @@ module _ (c : List ℕ) (valid : control_valid c ≡ true) (above : 1 < invocati
     left_held t Heap h = same_held heap_same h
 
 -- both regions stay right
-pub returned_right : (s c p : List ℕ) (n : ℕ) → return_check s c p n ≡ Pass → Rights c → Rights (returned c)
+pub returned_right : (s c p : List ℕ) (n : ℕ) → return_check s c p n ≡ Ok tt → Rights c → Rights (returned c)
 returned_right s c p n accepted h =
     let f : ReturnFacts s c p n = return_facts s c p n accepted in
     let v : control_valid c ≡ true = f.buffers.control in

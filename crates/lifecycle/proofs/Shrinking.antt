@@ -3,7 +3,6 @@
 use Rattle.std.proofs.Common.{ℕ, suc, ◌+◌, ◌-◌, ◌≤◌, ◌<◌, ◌≡◌, sym, ◌∙◌, true, ◌≢◌, ◌⊎◌, inl, inr, ⊎_elim, List, arith, leb-true}
 use Rattle.std.proofs.Math.Decide.{dec_lt}
 use Rattle.choice.proofs.Tests.{fails}
-use Rattle.refusal.specs.declared.Check.TheVariants.{Pass}
 use Rattle.refusal.proofs.Checks.{need_then, need_pass}
 use Rattle.control.specs.Control.{frames, depth, control_valid, size_of}
 use Rattle.control.specs.declared.shadow.Region.{Region}
@@ -18,6 +17,7 @@ use Rattle.lifecycle.proofs.Depths.{grown_misses}
 use Rattle.lifecycle.proofs.Moves.{usage_same, one_page_lem, Moves, moved_held, Untouched}
 use Rattle.lifecycle.proofs.Tagged.{moved_tagged}
 use Rattle.lifecycle.proofs.Sized.{Sized, sized_is, sized_right, sized_rise, sized-depth}
+use Rattle.std.specs.Prelude.{Ok}
 
 -- the frame of a page is the one that holds it
 pub page_found : (c : List ℕ) (r : Region) → RegionHeld c r → (k i : ℕ) → k < size_of c r → i < frames c → holds_page c r k i ≡ true
@@ -119,7 +119,7 @@ module _ (c : List ℕ) (r : Region) (n : ℕ) (valid : control_valid c ≡ true
   shrinks_few h i l = ⊎_elim (λ a. omega (arith, usage_same a.is)) (λ f. omega (arith, usage_same f.same, h.few i l)) (freed_or i)
 
 -- both regions stay right
-pub shrunk_right : (c : List ℕ) (r : Region) (n : ℕ) → control_valid c ≡ true → n < size_of c r → shrink_check c r n ≡ Pass → Rights c
+pub shrunk_right : (c : List ℕ) (r : Region) (n : ℕ) → control_valid c ≡ true → n < size_of c r → shrink_check c r n ≡ Ok tt → Rights c
     → Rights (sized (shrunk c r n (size_of c r - n)) r n)
 unfolding shrink_check
 shrunk_right c r n valid less accepted h =

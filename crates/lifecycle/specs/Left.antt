@@ -1,6 +1,5 @@
 -- Document 02, "Four": what becomes of the heap at a return, and which of its pages an invocation may free, as statements. Assumes nothing.
-use Rattle.std.specs.Prelude.{ℕ, ◌-◌, ◌≤◌, ◌<◌, ◌≡◌, true, List}
-use Rattle.refusal.specs.declared.Check.TheVariants.{Pass}
+use Rattle.std.specs.Prelude.{ℕ, ◌-◌, ◌≤◌, ◌<◌, ◌≡◌, true, List, Ok}
 use Rattle.control.specs.Control.{frames, depth, size_of}
 use Rattle.control.specs.declared.shadow.Region.{Region}
 use Rattle.control.specs.declared.shadow.Region.TheVariants.{Heap}
@@ -24,5 +23,5 @@ NoneBelow c r n = (k i : ℕ) → n ≤ k → k < size_of c r → i < frames c �
 
 -- "and free it where" that is so, and only there: the n-th page goes with all further out, by a resize to n pages
 pub record FreesWhere (c : List ℕ) (r : Region) (n : ℕ) : Type 0 where
-  pub may : NoneBelow c r n → shrink_check c r n ≡ Pass
-  pub only : shrink_check c r n ≡ Pass → NoneBelow c r n
+  pub may : NoneBelow c r n → shrink_check c r n ≡ Ok tt
+  pub only : shrink_check c r n ≡ Ok tt → NoneBelow c r n

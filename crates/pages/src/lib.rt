@@ -10,14 +10,14 @@ ghost use Rattle.pages.specs.Pages.{page_of, page_start, frame_start, in_frame, 
 
 use layout::page::PAGE;
 use snapshot::accounts::Account;
-use snapshot::lookup::{Lookup, look_up};
+use snapshot::lookup::look_up;
 
 // A page of an account's data or of a region, by its number: offset / 4,096.
-#[derive(Clone, Copy)]
+#[derive(Clone, Copy, PartialEq, Eq, Debug)]
 pub struct Page(pub u16);
 
 // A frame of the pool, by its number.
-#[derive(Clone, Copy)]
+#[derive(Clone, Copy, PartialEq, Eq, Debug)]
 pub struct Frame(pub u16);
 
 // The page of an offset.
@@ -32,14 +32,14 @@ pub fn page_of(offset: usize) -> Page
 pub fn page_start(page: Page) -> usize
     ensures { result ≡ page_start page }
 {
-    PAGE * (page.0 as usize)
+    PAGE * usize::from(page.0)
 }
 
 // Where a frame starts in the pool.
 pub fn frame_start(f: Frame) -> usize
     ensures { (result ≡ frame_start f) × (result < 2 ^ 28) }
 {
-    PAGE * (f.0 as usize)
+    PAGE * usize::from(f.0)
 }
 
 // Where an offset's byte stands in the pool, its page being in the frame.
@@ -50,17 +50,11 @@ pub fn in_frame(f: Frame, offset: usize) -> usize
 }
 
 // How many bytes of a page are live, the data being so long.
+#[tactic(auto, unfolding(crate::specs::Pages::live_of))]
 pub fn live_bytes(size: usize, page: Page) -> usize
     ensures { (result ≡ live_of size page) × (result ≤ page_size) }
 {
-    let start = page_start(page);
-    if size <= start {
-        return 0;
-    }
-    if size - start < PAGE {
-        return size - start;
-    }
-    PAGE
+    size.saturating_sub(page_start(page)).min(PAGE)
 }
 
 // Whether the page is one of an account that is there and valid, and has live bytes.
@@ -69,7 +63,7 @@ pub fn page_there(s: &[u8], a: Account, page: Page) -> bool
     ensures { result ≡ page_there s.now a page }
 {
     match look_up(s, a) {
-        Lookup::Valid(e) => 1 <= live_bytes(e.data_length(), page),
-        Lookup::Refused(_) => false,
+        Ok(e) => 1 <= live_bytes(e.data_length(), page),
+        Err(_) => false,
     }
 }

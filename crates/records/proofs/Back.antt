@@ -7,13 +7,13 @@ use Rattle.segments.specs.Kinds.{kind_store_span}
 use Rattle.translate.specs.Translate.{translate_of}
 use Rattle.translate.specs.declared.place.Place.{Place}
 use Rattle.translate.specs.declared.place.Place.TheVariants.{InSnapshot, InControl, Zeros, InPool, Take}
-use Rattle.translate.specs.declared.place.Translation.TheVariants.{Allowed}
 use Rattle.translate.proofs.Answered.{allowed}
 use Rattle.access.specs.Loads.{load_span_outcome, load_span_out}
 use Rattle.access.specs.Stores.{Writable, place_in_pool, taken_pool, prepared_pool, stored_at, store_outcome, store_control, store_pool}
 use Rattle.access.proofs.Answers.{place_writable, place_fits}
 use Rattle.records.specs.Back.{ReadsBack, SpanBack}
 use Rattle.records.proofs.Reread.{reread}
+use Rattle.std.specs.Prelude.{Ok}
 
 -- ---- the pool after a store
 
@@ -38,7 +38,7 @@ stored_back s c p bytes (Take t) w h = run_back (taken_pool s p t) t.at bytes h
 
 -- after a span store that was answered with a place
 place_back : (s c p : List ℕ) (a : ℕ) (bytes out : List ℕ) (q : Place) → length out ≡ length bytes
-    → translate_of s c p kind_store_span a (length bytes) ≡ Allowed q
+    → translate_of s c p kind_store_span a (length bytes) ≡ Ok q
     → ReadsBack s (store_control s c p kind_store_span a (length bytes)) (store_pool s c p kind_store_span a bytes) a out bytes
 unfolding load_span_outcome load_span_out store_control store_pool
 place_back s c p a bytes out q size e =

@@ -6,7 +6,7 @@ use Rattle.words.specs.Words.{word_at, word_bytes, splice}
 use Rattle.words.proofs.Word.{word_left, word_right, word_bytes_lem, length-word_bytes}
 use Rattle.words.proofs.Splice.{splice-append}
 use Rattle.words.proofs.Run.{splice_whole}
-use Rattle.records.specs.Layout.{record_length, encoded, decoded, Ranged, buffer_layout, event_layout, location_layout, call_record_layout, returned_layout}
+use Rattle.records.specs.Layout.{record_length, encoded, decoded, Ranged}
 
 -- a record's bytes number its layout's size
 pub length-encoded : (ws vs : List ℕ) → length (encoded ws vs) ≡ record_length ws
@@ -14,6 +14,9 @@ unfolding encoded record_length
 length-encoded [] vs = refl
 length-encoded (w ∷ ws) [] = length-append (word_bytes w 0) (encoded ws []) ∙ rw (length-word_bytes w 0, length-encoded ws [])
 length-encoded (w ∷ ws) (v ∷ vs) = length-append (word_bytes w v) (encoded ws vs) ∙ rw (length-word_bytes w v, length-encoded ws vs)
+
+-- the same, under a name that code can cite
+pub ruleset record_size = (length-encoded)
 
 -- fields behind others
 decoded_right : (ws xs ys : List ℕ) (k : ℕ) → decoded ws (xs ++ ys) (length xs + k) ≡ decoded ws ys k
@@ -38,47 +41,10 @@ decoded-encoded (w ∷ ws) (v ∷ vs) r =
 
 -- ---- fields written one after another
 
--- a number written is a part of one field
-pub put_field : (s : List ℕ) (at w v : ℕ) {t : List ℕ} → t ≡ splice s at (word_bytes w v) → t ≡ splice s at (encoded (w ∷ []) (v ∷ []))
-unfolding encoded
-put_field s at w v e = rw (append-nil (word_bytes w v)) e
+-- they are one write of all the bytes
+pub ruleset put_fields = (splice-append, length-word_bytes, append-nil)
 
--- the bytes of two parts, each with all of its fields
-encoded-append : (ws us vs xs : List ℕ) → length vs ≡ length ws → encoded (ws ++ us) (vs ++ xs) ≡ encoded ws vs ++ encoded us xs
-unfolding encoded
-encoded-append [] us [] xs e = refl
-encoded-append [] us (v ∷ vs) xs e = absurd (omega (arith, e))
-encoded-append (w ∷ ws) us [] xs e = absurd (omega (arith, e))
-encoded-append (w ∷ ws) us (v ∷ vs) xs e =
-    rw (encoded-append ws us vs xs (omega (arith, e))) (sym (append_assoc (word_bytes w v) (encoded ws vs) (encoded us xs)))
-
--- a part written behind another: both are there
-pub put_next : (s : List ℕ) (at : ℕ) (ws us vs xs : List ℕ) → length vs ≡ length ws → {t u : List ℕ} → t ≡ splice s at (encoded ws vs)
-    → u ≡ splice t (at + record_length ws) (encoded us xs)
-    → u ≡ splice s at (encoded (ws ++ us) (vs ++ xs))
-put_next s at ws us vs xs e x y =
-    rw (y, x, encoded-append ws us vs xs e, ← length-encoded ws vs) (sym (splice-append s at (encoded ws vs) (encoded us xs)))
-
--- all of it written into an array of its length
-pub put_whole : (ws vs : List ℕ) {t : List ℕ} → t ≡ splice (replicate (record_length ws) 0) 0 (encoded ws vs) → t ≡ encoded ws vs
-put_whole ws vs e =
-    e ∙ splice_whole (replicate (record_length ws) 0) (encoded ws vs) (length-encoded ws vs ∙ sym (length-replicate {A = ℕ} (record_length ws) 0))
-
--- a returned value written into zeros, its discriminant and behind it its descriptor: these are the record's bytes
-pub returned_written : (d pointer size : ℕ) → splice (splice (replicate 24 0) 0 (word_bytes 8 d)) 8 (encoded buffer_layout.widths (pointer ∷ size ∷ []))
-    ≡ encoded returned_layout.widths (d ∷ pointer ∷ size ∷ [])
-unfolding record_length
-returned_written d pointer size =
-    put_whole returned_layout.widths _
-    (put_next _ 0 (8 ∷ []) buffer_layout.widths (d ∷ []) _ refl (put_field _ _ 8 d refl) refl)
-
--- these bytes, and how many they are
-pub ruleset returned_bytes = (returned_written, length-encoded)
-
--- ---- the five: "16 bytes", "32 bytes", "24 bytes", "48 bytes", "24 bytes"
-
-pub sizes : (record_length buffer_layout.widths ≡ 16)
-    × ((record_length event_layout.widths ≡ 32)
-    × ((record_length location_layout.widths ≡ 24) × ((record_length call_record_layout.widths ≡ 48) × (record_length returned_layout.widths ≡ 24))))
-unfolding record_length
-sizes = (refl, (refl, (refl, (refl, refl))))
+-- a record written into an array of its size
+pub put_whole : (ws vs : List ℕ) (n : ℕ) → record_length ws ≡ n → splice (replicate n 0) 0 (encoded ws vs) ≡ encoded ws vs
+put_whole ws vs n e =
+    splice_whole (replicate n 0) (encoded ws vs) (length-encoded ws vs ∙ e ∙ sym (length-replicate {A = ℕ} n 0))

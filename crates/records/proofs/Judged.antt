@@ -1,13 +1,14 @@
 -- What a record's access answers by its span's: 0 where both are in order, the span's refusal, else 14; and how far it came. Assumes nothing.
-use Rattle.std.proofs.Common.{ℕ, ◌<◌, ◌≡◌, refl, Bool, true, false, List, arith, eqb}
+use Rattle.std.proofs.Common.{ℕ, ◌<◌, ◌≡◌, refl, ap, Bool, true, false, List, arith, eqb}
 use borrow.Author.Tests.{eqb-false}
 use Rattle.layout.specs.Page.{page_size}
 use Rattle.choice.proofs.Tests.{by_test, differ}
 use Rattle.refusal.specs.Numbers.{number_of, done}
+use Rattle.refusal.specs.Checks.{Check}
 use Rattle.refusal.specs.declared.Refusal.TheVariants.{BadRecord}
 use Rattle.segments.specs.Kinds.{kind_store_span}
-use Rattle.translate.specs.declared.place.Outcome.{Outcome}
-use Rattle.access.proofs.Near.{store_near}
+use Rattle.translate.specs.Place.{Outcome, outcome_of, distance_of_answer}
+use Rattle.access.proofs.Near.{outcome_near}
 use Rattle.records.specs.Layout.{Layout}
 use Rattle.records.specs.Calls.{judged, write_outcome}
 
@@ -38,6 +39,7 @@ judged_near true o h = h
 judged_near false o h = by_test (eqb o.number done) (λ e. rw e (omega arith)) (λ e. rw e h)
 
 -- so is a write's
-pub write_near : (s c p : List ℕ) (l : Layout) (a : ℕ) (vs : List ℕ) {o : Outcome} → o ≡ write_outcome s c p l a vs → o.distance < page_size
+pub write_near : (s c p : List ℕ) (l : Layout) (a : ℕ) (vs : List ℕ) (x : Check) → outcome_of x ≡ write_outcome s c p l a vs
+    → distance_of_answer x < page_size
 unfolding write_outcome
-write_near s c p l a vs e = rw e (judged_near _ _ (store_near s c p a _ kind_store_span refl))
+write_near s c p l a vs x e = rw (ap (λ (o : Outcome). o.distance) e) (judged_near _ _ (outcome_near s c p a _ kind_store_span))

@@ -16,12 +16,12 @@ use Rattle.segments.proofs.Table.{permitted_load}
 use Rattle.translate.specs.Translate.{concerned_valid, end_of, source_of, place_of, translate_of}
 use Rattle.translate.specs.declared.place.Place.{Place}
 use Rattle.translate.specs.declared.place.Place.TheVariants.{InSnapshot, InControl, Zeros, InPool, Take}
-use Rattle.translate.specs.declared.place.Translation.TheVariants.{Allowed}
 use Rattle.translate.specs.declared.request.Request.{Request}
 use Rattle.translate.proofs.Accepted.{request_of, accepted, accepted_answer}
 use Rattle.access.specs.Stores.{Writable, place_in_pool, copy_entry, prepared_control}
 use Rattle.access.proofs.Answers.{place_writable}
 use Rattle.records.proofs.Place.{place_again}
+use Rattle.std.specs.Prelude.{Ok}
 
 -- ---- the columns of a row
 
@@ -65,8 +65,8 @@ only_prepared s c p (InPool at) w = table_same c
 only_prepared s c p (Take t) w = table_put c t.frame.0 (copy_entry c t)
 
 -- the span load is allowed, at the place where the bytes went, with any pool as long
-pub reread : (s c p p' : List ℕ) (a n : ℕ) {q : Place} → translate_of s c p kind_store_span a n ≡ Allowed q → length p' ≡ length p
-    → translate_of s (prepared_control c q) p' kind_load_span a n ≡ Allowed (InPool (place_in_pool q))
+pub reread : (s c p p' : List ℕ) (a n : ℕ) {q : Place} → translate_of s c p kind_store_span a n ≡ Ok q → length p' ≡ length p
+    → translate_of s (prepared_control c q) p' kind_load_span a n ≡ Ok (InPool (place_in_pool q))
 unfolding place_of
 reread s c p p' a n {q} e size =
     let x = accepted s c p kind_store_span a n e refl in

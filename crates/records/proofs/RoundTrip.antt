@@ -22,9 +22,9 @@ read_written s c p l a vs ranged valid b =
     rw (b.bytes, spelt, valid) (b.outcome, spelt)
 
 -- of any layout
-round_trip : {A : Type 0} (l : Layout) (fields : A → List ℕ) (from : List ℕ → A) → ((x : A) → from (fields x) ≡ x) → RoundTrip l fields from
+pub round_trip_lem : {A : Type 0} (l : Layout) (fields : A → List ℕ) (from : List ℕ → A) → ((x : A) → from (fields x) ≡ x) → RoundTrip l fields from
 unfolding RoundTrip SpanBack write_outcome write_control write_pool
-round_trip l fields from back s c p a x ranged e =
+round_trip_lem l fields from back s c p a x ranged e =
     let bytes : List ℕ = encoded l.widths (fields x) in
     let accepted = judged-done (valid_fields l (fields x)) _ e in
     let size : length (blank l) ≡ length bytes = length-zeros (record_length l.widths) ∙ sym (length-encoded l.widths (fields x)) in
@@ -33,16 +33,16 @@ round_trip l fields from back s c p a x ranged e =
 
 -- of each of the five
 pub buffer_back : RoundTrip buffer_layout buffer_fields buffer_of
-buffer_back = round_trip buffer_layout buffer_fields buffer_of (λ x. refl)
+buffer_back = round_trip_lem buffer_layout buffer_fields buffer_of (λ x. refl)
 
 pub event_back : RoundTrip event_layout event_fields event_of
-event_back = round_trip event_layout event_fields event_of (λ x. refl)
+event_back = round_trip_lem event_layout event_fields event_of (λ x. refl)
 
 pub location_back : RoundTrip location_layout location_fields location_of
-location_back = round_trip location_layout location_fields location_of (λ x. refl)
+location_back = round_trip_lem location_layout location_fields location_of (λ x. refl)
 
 pub call_record_back : RoundTrip call_record_layout call_record_fields call_record_of
-call_record_back = round_trip call_record_layout call_record_fields call_record_of (λ x. refl)
+call_record_back = round_trip_lem call_record_layout call_record_fields call_record_of (λ x. refl)
 
 pub returned_back : RoundTrip returned_layout returned_fields returned_of
-returned_back = round_trip returned_layout returned_fields returned_of (λ x. refl)
+returned_back = round_trip_lem returned_layout returned_fields returned_of (λ x. refl)

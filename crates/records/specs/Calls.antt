@@ -3,12 +3,17 @@ use Rattle.std.specs.Prelude.{ℕ, Bool, List, nat_eq, length}
 use Rattle.words.specs.Words.{zeros}
 use Rattle.choice.specs.Choice.{pick}
 use Rattle.refusal.specs.Numbers.{number_of, distance_of, done}
+use Rattle.refusal.specs.declared.Refusal.{Refusal}
 use Rattle.refusal.specs.declared.Refusal.TheVariants.{BadRecord}
 use Rattle.segments.specs.Kinds.{kind_store_span}
-use Rattle.translate.specs.declared.place.Outcome.{Outcome}
+use Rattle.translate.specs.Place.{Outcome}
 use Rattle.access.specs.Loads.{load_span_outcome, load_span_out}
 use Rattle.access.specs.Stores.{store_outcome, store_control, store_pool}
 use Rattle.records.specs.Layout.{Layout, record_length, encoded, decoded, valid_fields}
+
+-- the number and the distance of a refusal
+abbrev pub refused_outcome : Refusal → Outcome
+refused_outcome r = record { number = number_of r; distance = distance_of r }
 
 -- "14 comes after every refusal of the access": the access's own answer, unless that is accepted and the record is not valid
 unfoldable pub judged : Bool → Outcome → Outcome

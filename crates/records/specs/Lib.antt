@@ -1,5 +1,6 @@
 pub mod Layout
 pub mod Records
+pub mod Laws
 pub mod Calls
 pub mod Answers
 pub mod Back

@@ -4,6 +4,8 @@
 #![tactic(auto)]
 
 mod fields;
+pub mod laws;
 pub mod reads;
+pub mod record;
 pub mod types;
 pub mod writes;

@@ -4,9 +4,10 @@
 
 ghost use Rattle.std.specs.Prelude.{◌≡◌};
 ghost use Rattle.refusal.specs.Numbers.{number_of, distance_of};
+ghost use Rattle.refusal.specs.Checks.{check_number};
 
-// A case for each meaning that has a number.
-#[derive(Clone, Copy)]
+// A case for each meaning that has a number. A test or a call that may refuse answers a `Result` with this error.
+#[derive(Clone, Copy, Debug, PartialEq, Eq)]
 pub enum Refusal {
     // a buffer, header, account entry or control block is not valid
     Invalid,
@@ -35,56 +36,49 @@ pub enum Refusal {
     BadRecord,
 }
 
-// What a test finds: go on, or refuse.
-#[derive(Clone, Copy)]
-pub enum Check {
-    Pass,
-    Stop(Refusal),
-}
-
 // The number given back where nothing is refused.
 pub const DONE: u8 = 0;
 
-// The number of a refusal.
-pub fn number(r: Refusal) -> u8
-    ensures { result ≡ number_of r }
-{
-    match r {
-        Refusal::Invalid => 1,
-        Refusal::BadRequest => 2,
-        Refusal::BadAddress => 3,
-        Refusal::NoSegment => 4,
-        Refusal::Misaligned => 5,
-        Refusal::Crossing => 6,
-        Refusal::NotPermitted => 7,
-        Refusal::NoFrame => 8,
-        Refusal::DepthLimit => 9,
-        Refusal::TooManyPages => 10,
-        Refusal::ShortOutput => 11,
-        Refusal::BadList => 12,
-        Refusal::Absent(_) => 13,
-        Refusal::BadRecord => 14,
+impl Refusal {
+    // The number of a refusal.
+    pub fn number(self) -> u8
+        ensures { result ≡ number_of self }
+    {
+        match self {
+            Refusal::Invalid => 1,
+            Refusal::BadRequest => 2,
+            Refusal::BadAddress => 3,
+            Refusal::NoSegment => 4,
+            Refusal::Misaligned => 5,
+            Refusal::Crossing => 6,
+            Refusal::NotPermitted => 7,
+            Refusal::NoFrame => 8,
+            Refusal::DepthLimit => 9,
+            Refusal::TooManyPages => 10,
+            Refusal::ShortOutput => 11,
+            Refusal::BadList => 12,
+            Refusal::Absent(_) => 13,
+            Refusal::BadRecord => 14,
+        }
+    }
+
+    // How many bytes an access went before the first that is not present; 0 where another thing was wrong.
+    pub fn distance(self) -> usize
+        ensures { result ≡ distance_of self }
+    {
+        match self {
+            Refusal::Absent(n) => n,
+            _ => 0,
+        }
     }
 }
 
-// How many bytes an access went before the first that is not present; 0 where another thing was wrong.
-pub fn distance(r: Refusal) -> usize
-    ensures { result ≡ distance_of r }
+// The number of a call that gives nothing but its number.
+pub fn number(answer: Result<(), Refusal>) -> u8
+    ensures { result ≡ check_number answer }
 {
-    match r {
-        Refusal::Invalid => 0,
-        Refusal::BadRequest => 0,
-        Refusal::BadAddress => 0,
-        Refusal::NoSegment => 0,
-        Refusal::Misaligned => 0,
-        Refusal::Crossing => 0,
-        Refusal::NotPermitted => 0,
-        Refusal::NoFrame => 0,
-        Refusal::DepthLimit => 0,
-        Refusal::TooManyPages => 0,
-        Refusal::ShortOutput => 0,
-        Refusal::BadList => 0,
-        Refusal::Absent(n) => n,
-        Refusal::BadRecord => 0,
+    match answer {
+        Ok(()) => DONE,
+        Err(refusal) => refusal.number(),
     }
 }

@@ -17,8 +17,6 @@ use Rattle.pages.specs.declared.Page.{Page}
 use Rattle.frames.specs.Table.{frame_entry_of, put_frame_entry, usage_of, holds, claims, is_free, free_frame, free_count}
 use Rattle.frames.specs.declared.table.FrameEntry.{FrameEntry}
 use Rattle.frames.specs.declared.claim.Claim.TheVariants.{Copy, Anonymous}
-use Rattle.frames.specs.declared.claim.Found.{Found}
-use Rattle.frames.specs.declared.claim.Found.TheVariants.{At, Nothing}
 use Rattle.frames.proofs.Entries.{EntryRange, entry_other, entry_same}
 use Rattle.frames.proofs.OnlyTable.{OnlyTable, table_same, table_put, table_then, table_frames, table_invocations, table_valid}
 use Rattle.frames.specs.declared.claim.End.TheVariants.{Lowest}
@@ -27,18 +25,20 @@ use Rattle.frames.proofs.Claims.{unused, claims-holds, claims_page, free_claims}
 use Rattle.frames.proofs.Free.{free_some, free_first, free_count_taken}
 use Rattle.regions.specs.Resize.{page_at, region_entry, grow_in, grow_one, grown}
 use Rattle.regions.proofs.Pages.{page_below, page_one, usage_some, page_range, page_no_copy, entry_inside, free_ext, claims_ext}
+use Rattle.std.specs.Prelude.{None, Option, Some}
+use Rattle.pages.specs.declared.Frame.{Frame}
 
 -- ---- one page
 
 -- whatever frame is found, nothing but the frame table changes
-in_only : (r : Region) (q : Page) (w : Buffers) (o : Found) → OnlyTable w.control (grow_in r q w o).control
-in_only r q w (At f) = table_put w.control f.0 (region_entry (depth w.control) r q)
-in_only r q w Nothing = table_same w.control
+in_only : (r : Region) (q : Page) (w : Buffers) (o : Option Frame) → OnlyTable w.control (grow_in r q w o).control
+in_only r q w (Some f) = table_put w.control f.0 (region_entry (depth w.control) r q)
+in_only r q w None = table_same w.control
 
 -- and the pool keeps its length
-in_pool : (r : Region) (q : Page) (w : Buffers) (o : Found) → length (grow_in r q w o).pool ≡ length w.pool
-in_pool r q w (At f) = length-splice w.pool (page_size * f.0) (zeros page_size)
-in_pool r q w Nothing = refl
+in_pool : (r : Region) (q : Page) (w : Buffers) (o : Option Frame) → length (grow_in r q w o).pool ≡ length w.pool
+in_pool r q w (Some f) = length-splice w.pool (page_size * f.0) (zeros page_size)
+in_pool r q w None = refl
 
 -- frame i has this entry and these bytes
 pub record Shows (v : Buffers) (i : ℕ) (e : FrameEntry) (bs : List ℕ) : Type 0 where
@@ -59,7 +59,7 @@ pub record Took (r : Region) (q : Page) (w v : Buffers) : Type 0 where
 one_took : (r : Region) (q : Page) (w : Buffers) → 1 ≤ free_count w.control → Took r q w (grow_one r q w)
 unfolding grow_one
 one_took r q w h =
-    let e : free_frame Lowest w.control ≡ At (record { 0 = next_free w }) = free_some w.control h in
+    let e : free_frame Lowest w.control ≡ Some (record { 0 = next_free w }) = free_some w.control h in
     record { first = free_first w.control (record { 0 = next_free w }) e; control = rw e; pool = rw e }
 
 module _ {r : Region} {q : Page} {w v : Buffers} (t : Took r q w v) where

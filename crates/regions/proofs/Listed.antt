@@ -10,14 +10,13 @@ use Rattle.choice.proofs.Lowest.{seek_hit, seek_miss, seek_end, lowest_hits}
 use Rattle.choice.proofs.Counting.{count_hit, count_grows, count_some, count_ext, count_less}
 use Rattle.choice.proofs.Paired.{count_all}
 use Rattle.choice.proofs.Every.{every_fails, every_all}
-use Rattle.control.specs.Control.{frames, control_valid}
+use Rattle.control.specs.Control.{frames}
 use Rattle.control.specs.declared.shadow.Region.{Region}
-use Rattle.frames.specs.Table.{entry_end, claims, is_found, found_in, frame_of}
+use Rattle.frames.specs.Table.{claims, is_found, found_in, frame_of}
 use Rattle.frames.specs.declared.claim.Claim.TheVariants.{Anonymous}
 use Rattle.frames.proofs.Claims.{frame_found}
 use Rattle.frame_search.proofs.Loops.{search_start}
 use Rattle.regions.specs.Resize.{page_at, page_frame, all_held, FramesOf}
-use Rattle.regions.proofs.Pages.{entry_inside}
 
 -- entry i claims the j-th of the pages
 abbrev pub claim : List ℕ → Region → ℕ → ℕ → ℕ → Bool
@@ -54,13 +53,12 @@ module _ {c : List ℕ} {r : Region} {k n m i left : ℕ} {t : List ℕ} (s : Li
       (λ e. rw e (seek_miss (claim c r k j) i m l (h (leb-true m (get_or t j 0) e)) ∙ rw e at (s.each j b)))
       (λ e. rw e (rw e at (s.each j b)))
 
-  -- of the n pages it claims the x-th alone
-  module _ (x : ℕ) (one : (j : ℕ) → j < n → claim c r k j i ≡ eqb j x) where
-    -- which is none of them
-    pub list_other : n ≤ x → Listing c r k n m (i + 1) left t
-    list_other b =
-        record { missing = s.missing; each = λ j d. stays j d (λ h. one j d ∙ ne_eqb j x (λ e. omega arith)) }
+  -- of the n pages it claims none
+  pub list_other : ((j : ℕ) → j < n → claim c r k j i ≡ false) → Listing c r k n m (i + 1) left t
+  list_other none = record { missing = s.missing; each = λ j d. stays j d (λ h. none j d) }
 
+  -- it claims the x-th alone
+  module _ (x : ℕ) (one : (j : ℕ) → j < n → claim c r k j i ≡ eqb j x) where
     -- which has a frame
     pub list_again : get_or t x 0 < m → Listing c r k n m (i + 1) left t
     list_again b =
@@ -121,9 +119,9 @@ pub list_held : {c : List ℕ} {r : Region} {k n : ℕ} {t : List ℕ} → Frame
 unfolding all_held
 list_held {c} {r} {k} {n} f = sym (every_all (λ j. is_found (page_frame c r (k + j))) n (λ j b. ap is_found (f.each j b)))
 
--- whose entry lies in the control block
-pub listed_inside : {c : List ℕ} {r : Region} {k n : ℕ} {t : List ℕ} → FramesOf c r k n t → control_valid c ≡ true → (j : ℕ) → j < n → entry_end (get_or t j 0) ≤ length c
-listed_inside {c} f ok j b = entry_inside c _ ok (frame_found c _ _ (f.each j b)).below
+-- which is in the frame table
+pub listed_within : {c : List ℕ} {r : Region} {k n : ℕ} {t : List ℕ} → FramesOf c r k n t → (j : ℕ) → j < n → get_or t j 0 < frames c
+listed_within {c} f j b = (frame_found c _ _ (f.each j b)).below
 
 -- entry i becomes the frame of the x-th page, the last that had none: each page has one
 pub last_found : (c : List ℕ) (r : Region) (k n m i left : ℕ) (t : List ℕ) (x : ℕ) → m ≤ get_or t x 0 → claim c r k x i ≡ true

@@ -1,6 +1,6 @@
 -- Shrinking a region. The frames of the pages that go are found before any is freed: their entries become zeros, and all else is as it was.
 -- Assumes nothing.
-use Rattle.std.proofs.Common.{ℕ, zero, suc, ◌+◌, ◌-◌, ◌≤◌, ◌<◌, ◌≡◌, refl, sym, ap, ◌∙◌, true, ◌⊎◌, inl, inr, ⊎_elim, List, arith, length}
+use Rattle.std.proofs.Common.{ℕ, zero, suc, ◌+◌, ◌-◌, ◌≤◌, ◌<◌, ◌≡◌, refl, sym, ap, ◌∙◌, Bool, true, ◌⊎◌, inl, inr, ⊎_elim, List, arith, length}
 use Rattle.std.proofs.Math.Decide.{ℕ_discrete}
 use Rattle.choice.proofs.Tests.{fails}
 use Rattle.choice.proofs.Every.{every_at}
@@ -12,53 +12,56 @@ use Rattle.pages.specs.declared.Page.{Page}
 use Rattle.frames.specs.Table.{entry_end, frame_entry_of, zero_entry, holds, claims}
 use Rattle.frames.specs.declared.table.FrameEntry.{FrameEntry}
 use Rattle.frames.specs.declared.claim.Claim.TheVariants.{Copy}
-use Rattle.frames.specs.declared.claim.Found.{Found}
-use Rattle.frames.specs.declared.claim.Found.TheVariants.{At, Nothing}
 use Rattle.frames.proofs.Entries.{entry_other, entry_same, zero_range}
 use Rattle.frames.proofs.OnlyTable.{OnlyTable, table_same, table_put, table_then}
 use Rattle.frames.proofs.Claims.{claims-holds, claims_copy, claims_page, frame_found}
 use Rattle.regions.specs.Resize.{page_at, page_frame, may_leave, all_leave, free_found, shrunk}
 use Rattle.regions.proofs.Pages.{usage_no_copy, entry_inside, claims_ext}
+use Rattle.std.specs.Prelude.{None, Option, Some}
 
 -- ---- what is found
 
 -- frame i is found
-abbrev pub FoundAt : Found → ℕ → Type 0
-FoundAt o i = o ≡ At (record { 0 = i })
+abbrev pub FoundAt : Option Frame → ℕ → Type 0
+FoundAt o i = o ≡ Some (record { 0 = i })
 
 -- what is found is frame i, or it is not
-found_or : (o : Found) (i : ℕ) → FoundAt o i ⊎ (FoundAt o i → ⊥)
-found_or (At f) i =
+found_or : (o : Option Frame) (i : ℕ) → FoundAt o i ⊎ (FoundAt o i → ⊥)
+found_or (Some f) i =
     elim (ℕ_discrete f.0 i) [
-      | yes e ↦ inl (ap (λ (x : ℕ). At (record { 0 = x })) e)
+      | yes e ↦ inl (ap (λ (x : ℕ). Some (record { 0 = x })) e)
       | no d ↦ inr (λ e. d (let y : f ≡ record { 0 = i } = cc in ap (λ (x : Frame). x.0) y))
     ]
-found_or Nothing i = inr (λ e. let z : ◌≡◌ {A = ℕ} 0 1 = cc in absurd (omega arith))
+found_or None i = inr (λ e. let z : ◌≡◌ {A = ℕ} 0 1 = cc in absurd (omega arith))
 
 -- ---- one frame freed
 
 module _ (d : List ℕ) where
   -- nothing but the frame table changes
-  freed_only : (o : Found) → OnlyTable d (free_found d o)
-  freed_only (At f) = table_put d f.0 zero_entry
-  freed_only Nothing = table_same d
+  freed_only : (o : Option Frame) → OnlyTable d (free_found d o)
+  freed_only (Some f) = table_put d f.0 zero_entry
+  freed_only None = table_same d
 
   module _ (i : ℕ) where
     -- another entry is as it was
-    freed_other : (o : Found) → (FoundAt o i → ⊥) → frame_entry_of (free_found d o) i ≡ frame_entry_of d i
-    freed_other (At f) h = entry_other d f.0 zero_entry i (λ e. h (ap (λ (x : ℕ). At (record { 0 = x })) (sym e)))
-    freed_other Nothing h = refl
+    freed_other : (o : Option Frame) → (FoundAt o i → ⊥) → frame_entry_of (free_found d o) i ≡ frame_entry_of d i
+    freed_other (Some f) h = entry_other d f.0 zero_entry i (λ e. h (ap (λ (x : ℕ). Some (record { 0 = x })) (sym e)))
+    freed_other None h = refl
 
     module _ (l : entry_end i ≤ length d) where
       -- its own is zeros
-      freed_zero : (o : Found) → FoundAt o i → frame_entry_of (free_found d o) i ≡ zero_entry
+      freed_zero : (o : Option Frame) → FoundAt o i → frame_entry_of (free_found d o) i ≡ zero_entry
       freed_zero o e = rw e (entry_same d i zero_entry zero_range l)
 
       -- an entry of zeros stays so
-      freed_stays : (o : Found) → frame_entry_of d i ≡ zero_entry → frame_entry_of (free_found d o) i ≡ zero_entry
+      freed_stays : (o : Option Frame) → frame_entry_of d i ≡ zero_entry → frame_entry_of (free_found d o) i ≡ zero_entry
       freed_stays o z = ⊎_elim (λ e. freed_zero o e) (λ h. freed_other o h ∙ z) (found_or o i)
 
 -- ---- n pages, from the k-th on
+
+-- the test of the j-th page: its frame may be freed
+abbrev pub may : List ℕ → Region → ℕ → ℕ → Bool
+may c r k j = may_leave c (page_frame c r (k + j))
 
 -- frame i is that of one of the pages
 pub record Among (c : List ℕ) (r : Region) (k n i : ℕ) : Type 0 where
@@ -72,7 +75,7 @@ module _ (c : List ℕ) (r : Region) (k : ℕ) where
   unfolding all_leave
   leave_between m j l b h =
       let place : k + (j - k) ≡ j = omega arith in
-      rw place at (every_at (λ i. may_leave c (page_frame c r (k + i))) (m - k) (j - k) h (omega arith))
+      rw place at (every_at (may c r k) (m - k) (j - k) h (omega arith))
 
   -- nothing but the frame table changes
   pub shrunk_only : (n : ℕ) → OnlyTable c (shrunk c r k n)

@@ -1,13 +1,10 @@
 -- Document 01, "Begin, call, return, resize": resize. Assumes nothing.
-use Rattle.std.specs.Prelude.{ℕ, zero, suc, ◌+◌, ◌-◌, ◌≤◌, ◌<◌, ◌≡◌, Bool, true, List, length, get_or, nat_lt, nat_le, nat_eq}
+use Rattle.std.specs.Prelude.{ℕ, zero, suc, ◌+◌, ◌-◌, ◌≤◌, ◌<◌, ◌≡◌, Bool, true, List, length, get_or, nat_lt, nat_le, nat_eq, Err, None, Ok, Option, Some}
 use Rattle.layout.specs.Page.{page_size, page_limit}
 use Rattle.words.specs.Words.{splice, zeros}
 use Rattle.choice.specs.Choice.{pick, either}
 use Rattle.choice.specs.Search.{every}
-use Rattle.refusal.specs.Numbers.{done}
-use Rattle.refusal.specs.Checks.{need, ◌then◌, check_number, or_keep}
-use Rattle.refusal.specs.declared.Check.{Check}
-use Rattle.refusal.specs.declared.Check.TheVariants.{Pass, Stop}
+use Rattle.refusal.specs.Checks.{need, ◌then◌, or_keep, Check}
 use Rattle.refusal.specs.declared.Refusal.TheVariants.{Invalid, BadRequest, NotPermitted, NoFrame, TooManyPages}
 use Rattle.control.specs.Buffers.{Buffers}
 use Rattle.control.specs.Control.{invocations, depth, set_pages, buffers_valid, size_of}
@@ -19,8 +16,7 @@ use Rattle.frames.specs.Table.{frame_entry_of, put_frame_entry, free_frame_entry
 use Rattle.frames.specs.declared.table.FrameEntry.{FrameEntry}
 use Rattle.frames.specs.declared.claim.Claim.TheVariants.{Anonymous}
 use Rattle.frames.specs.declared.claim.End.TheVariants.{Lowest}
-use Rattle.frames.specs.declared.claim.Found.{Found}
-use Rattle.frames.specs.declared.claim.Found.TheVariants.{At, Nothing}
+use Rattle.pages.specs.declared.Frame.{Frame}
 
 -- the k-th page of a region, "nearest page first": the heap from page 0 up, the stack from page 4,095 down
 abbrev pub page_at : Region → ℕ → Page
@@ -34,13 +30,13 @@ abbrev pub region_entry : ℕ → Region → Page → FrameEntry
 region_entry tag r q = record { usage = usage_of r; tag = tag; account = record { 0 = 0 }; page = q; depth = 0 }
 
 -- one page more, in the frame found: its entry written and its bytes zeroed
-abbrev pub grow_in : Region → Page → Buffers → Found → Buffers
-grow_in r q w (At f) =
+abbrev pub grow_in : Region → Page → Buffers → Option Frame → Buffers
+grow_in r q w (Some f) =
     record {
       control = put_frame_entry w.control f.0 (region_entry (depth w.control) r q);
       pool = splice w.pool (frame_start f) (zeros page_size);
     }
-grow_in r q w Nothing = w
+grow_in r q w None = w
 
 -- "Growing takes the lowest free frames": one page more
 unfoldable pub grow_one : Region → Page → Buffers → Buffers
@@ -58,13 +54,13 @@ grow_check c r n = need (nat_le (n - size_of c r) (free_count c)) NoFrame
 -- ---- shrinking
 
 -- the frame of the k-th page
-abbrev pub page_frame : List ℕ → Region → ℕ → Found
+abbrev pub page_frame : List ℕ → Region → ℕ → Option Frame
 page_frame c r k = frame_of c (Anonymous r (page_at r k))
 
 -- no "tag below the depth"
-abbrev pub may_leave : List ℕ → Found → Bool
-may_leave c (At f) = nat_le (depth c) (frame_entry_of c f.0).tag
-may_leave c Nothing = true
+abbrev pub may_leave : List ℕ → Option Frame → Bool
+may_leave c (Some f) = nat_le (depth c) (frame_entry_of c f.0).tag
+may_leave c None = true
 
 -- the n pages from the k-th on all have frames
 unfoldable pub all_held : List ℕ → Region → ℕ → ℕ → Bool
@@ -81,9 +77,9 @@ shrink_check c r n =
     then need (all_leave c r n (size_of c r - n)) NotPermitted
 
 -- the frame found is freed
-abbrev pub free_found : List ℕ → Found → List ℕ
-free_found c (At f) = free_frame_entry c f.0
-free_found c Nothing = c
+abbrev pub free_found : List ℕ → Option Frame → List ℕ
+free_found c (Some f) = free_frame_entry c f.0
+free_found c None = c
 
 -- "Shrinking frees the outermost pages": the n pages from the k-th on, each by its frame in c
 unfoldable pub shrunk : List ℕ → Region → ℕ → ℕ → List ℕ
@@ -96,16 +92,16 @@ shrunk c r k (suc n) = free_found (shrunk c r k n) (page_frame c r (k + n))
 abbrev pub sized : List ℕ → Region → ℕ → List ℕ
 sized c r n = set_pages c (invocations c) r n
 
--- the number, and both buffers afterwards
+-- what the tests answer, and both buffers afterwards
 pub record Resized : Type 0 where
-  pub number : ℕ
+  pub answer : Check
   pub after : Buffers
 
 -- growing to n pages
 unfoldable pub grow_to : List ℕ → List ℕ → Region → ℕ → Resized
 grow_to c p r n =
     record {
-      number = check_number (grow_check c r n);
+      answer = grow_check c r n;
       after =
           record {
             control = or_keep (grow_check c r n) c (sized (grown r (size_of c r) c p (n - size_of c r)).control r n);
@@ -122,8 +118,8 @@ unfoldable pub resize_to : List ℕ → List ℕ → Region → ℕ → Resized
 resize_to c p r n =
     pick (nat_lt (size_of c r) n) (grow_to c p r n)
     (pick (nat_lt n (size_of c r))
-    (record { number = check_number (shrink_check c r n); after = record { control = shrink_control c r n; pool = p } })
-    (record { number = done; after = record { control = c; pool = p } }))
+    (record { answer = shrink_check c r n; after = record { control = shrink_control c r n; pool = p } })
+    (record { answer = Ok tt; after = record { control = c; pool = p } }))
 
 -- "1, 2 (neither stack nor heap), 10"
 unfoldable pub resize_check : List ℕ → List ℕ → List ℕ → ℕ → ℕ → Check
@@ -136,10 +132,10 @@ resize_check s c p code n =
 abbrev pub region_of : ℕ → Region
 region_of code = pick (nat_eq code (usage_of Stack)) Stack Heap
 
--- what is done, or the refusal's number and both buffers as they were
+-- what is done, or the refusal and both buffers as they were
 abbrev pub or_refused : Check → List ℕ → List ℕ → Resized → Resized
-or_refused Pass c p o = o
-or_refused (Stop r) c p o = record { number = check_number (Stop r); after = record { control = c; pool = p } }
+or_refused (Ok tt) c p o = o
+or_refused (Err r) c p o = record { answer = Err r; after = record { control = c; pool = p } }
 
 -- a resize
 unfoldable pub resize_of : List ℕ → List ℕ → List ℕ → ℕ → ℕ → Resized
@@ -148,4 +144,4 @@ resize_of s c p code n = or_refused (resize_check s c p code n) c p (resize_to c
 -- the frames of the n pages from the k-th on, as a list: each page has one, and the list has it at the page's place
 pub record FramesOf (c : List ℕ) (r : Region) (k n : ℕ) (t : List ℕ) : Type 0 where
   pub size : n ≤ length t
-  pub each : (j : ℕ) → j < n → page_frame c r (k + j) ≡ At (record { 0 = get_or t j 0 })
+  pub each : (j : ℕ) → j < n → page_frame c r (k + j) ≡ Some (record { 0 = get_or t j 0 })

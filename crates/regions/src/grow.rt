@@ -14,7 +14,7 @@ use frames::claim::{End, usage_of};
 use frames::table::{FrameEntry, put_frame_entry};
 use layout::page::{PAGE, REGION};
 use pages::{Frame, Page, frame_start};
-use refusal::{DONE, Refusal, number};
+use refusal::Refusal;
 use snapshot::accounts::Account;
 use words::runs::clear;
 
@@ -60,28 +60,32 @@ fn take_pages(c: &mut [u8], pool: &mut [u8], r: Region, size: usize, pages: usiz
     let frames = frame_count(c);
     let depth = (invocation_count(c) - 1) as u8;
     let mut at = 0;
-    let mut k = size;
-    while k < pages {
+    for k in size..pages {
         at = next_free(c, End::Lowest, at, frames);
         take_page(c, pool, Frame(at as u16), r, page_at(r, k), depth);
-        k += 1;
     }
 }
 
 // Grows the current invocation's region from its size to more pages, if that many frames are free.
-#[tactic(auto, using(control::proofs::Facts::control_facts))]
-pub fn grow_to(c: &mut [u8], pool: &mut [u8], r: Region, size: usize, pages: usize) -> u8
+#[tactic(auto, using(control::proofs::Facts::control_facts, crate::proofs::Accepted::grow_steps))]
+pub fn grow_to(
+    c: &mut [u8],
+    pool: &mut [u8],
+    r: Region,
+    size: usize,
+    pages: usize,
+) -> Result<(), Refusal>
     requires c_value { (control_valid c.old ≡ true) × (length pool.old ≡ pool_length (frames c.old)) }
     requires size_value { (size ≡ pages_of (current c.old) r) × (size < pages) × (pages ≤ page_limit) }
-    ensures value { result ≡ (grow_to c.old pool.old r pages).number }
+    ensures value { result ≡ (grow_to c.old pool.old r pages).answer }
     ensures c_after { c.new ≡ (grow_to c.old pool.old r pages).after.control }
     ensures pool_after { pool.new ≡ (grow_to c.old pool.old r pages).after.pool }
 {
-    if has_free(c, pages - size) {
-        let live = invocation_count(c);
-        take_pages(c, pool, r, size, pages);
-        set_pages(c, live, r, pages as u16);
-        return DONE;
+    if !has_free(c, pages - size) {
+        return Err(Refusal::NoFrame);
     }
-    number(Refusal::NoFrame)
+    let live = invocation_count(c);
+    take_pages(c, pool, r, size, pages);
+    set_pages(c, live, r, pages as u16);
+    Ok(())
 }

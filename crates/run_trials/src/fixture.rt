@@ -30,9 +30,9 @@ pub const MOST_CONTEXTS: usize = CONTEXTS_AT + CONTEXT * CONTEXTS + TRANSACTION 
 fn write_header(snapshot: &mut [u8], contexts: u16)
     requires { header_size ≤ length snapshot.old }
 {
-    let transaction_at = CONTEXTS_AT + CONTEXT * (contexts as usize);
+    let transaction_at = CONTEXTS_AT + CONTEXT * usize::from(contexts);
     write(snapshot, 0, 4, 6);
-    write(snapshot, 4, 4, contexts as u64);
+    write(snapshot, 4, 4, u64::from(contexts));
     write(snapshot, 8, 4, TRANSACTION as u64);
     write(snapshot, 12, 4, SNAPSHOT_HEADER as u64);
     write(snapshot, 16, 4, CONTEXTS_AT as u64);
@@ -45,7 +45,7 @@ fn write_header(snapshot: &mut [u8], contexts: u16)
 fn write_entry(snapshot: &mut [u8], account: Account, flags: u64, size: usize, start: usize)
     requires { header_size + entry_size * account.0 + entry_size ≤ length snapshot.old }
 {
-    let at = SNAPSHOT_HEADER + ACCOUNT_ENTRY * (account.0 as usize);
+    let at = SNAPSHOT_HEADER + ACCOUNT_ENTRY * usize::from(account.0);
     write(snapshot, at, 4, flags);
     write(snapshot, at + 4, 4, size as u64);
     write(snapshot, at + 8, 4, start as u64);
@@ -55,13 +55,13 @@ fn write_entry(snapshot: &mut [u8], account: Account, flags: u64, size: usize, s
 pub fn write_snapshot(snapshot: &mut [u8], contexts: u16)
     requires { (1 ≤ contexts) × (header_size + 6 * entry_size + context_size * contexts + 76 ≤ length snapshot.old) }
 {
-    let transaction_at = CONTEXTS_AT + CONTEXT * (contexts as usize);
+    let transaction_at = CONTEXTS_AT + CONTEXT * usize::from(contexts);
     let code_at = transaction_at + TRANSACTION;
     let slots_at = code_at + CODE;
     write_header(snapshot, contexts);
     write_entry(snapshot, Account(0), 1, CODE, code_at);
     write_entry(snapshot, Account(5), 3, snapshot.len() - slots_at, slots_at);
-    write(snapshot, transaction_at - CONTEXT, 4, contexts as u64);
+    write(snapshot, transaction_at - CONTEXT, 4, u64::from(contexts));
     write(snapshot, code_at, 4, 0x13);
     slots::fill(&mut snapshot[slots_at..]);
 }

@@ -12,8 +12,8 @@ fn original(i: usize) -> u8
 pub fn fill(slots: &mut [u8])
     ensures { (i : ℕ) → i < length slots.new → get_or slots.new i 0 ≡ i % 251 }
 {
-    for i in 0..slots.len() {
-        slots[i] = original(i);
+    for (i, byte) in slots.iter_mut().enumerate() {
+        *byte = original(i);
     }
 }
 
@@ -21,11 +21,9 @@ pub fn fill(slots: &mut [u8])
 pub fn changed(slots: &[u8]) -> usize
     ensures { result ≤ length slots.now }
 {
-    let mut n = 0;
-    for i in 0..slots.len() {
-        if slots[i] != original(i) {
-            n += 1;
-        }
-    }
-    n
+    slots
+        .iter()
+        .enumerate()
+        .filter(|(i, byte)| **byte != original(*i))
+        .count()
 }

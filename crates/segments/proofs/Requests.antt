@@ -1,19 +1,14 @@
 -- What a valid request gives: each test that passed is a fact about its numbers. Assumes nothing.
-use Rattle.std.proofs.Common.{ℕ, ◌+◌, ◌%◌, ◌≤◌, ◌<◌, ◌≡◌, sym, ◌∙◌, true, arith, leb-true, le-leb, leb}
+use Rattle.std.proofs.Common.{ℕ, ◌+◌, ◌-◌, ◌%◌, ◌≤◌, ◌<◌, ◌≡◌, true, arith, leb-true, le-leb, leb, bit_and}
 use Rattle.std.proofs.Math.Decide.{dec_lt}
 use borrow.Author.Tests.{lt-leb}
+use lib.Bits.{and_mask}
 use Rattle.layout.specs.Page.{page_size}
 use Rattle.words.specs.Words.{is_size}
-use Rattle.words.proofs.Sizes.{size_short}
+use Rattle.words.proofs.Sizes.{by_size, size_short}
 use Rattle.choice.specs.Choice.{pick, both}
-use Rattle.choice.proofs.Tests.{by_test, both_true}
+use Rattle.choice.proofs.Tests.{both_true}
 use Rattle.segments.specs.Kinds.{kind_store_span, is_span, request_valid, aligned, within}
-
--- orders that follow from each other have the same test
-pub same_leb : (a b c d : ℕ) → (a ≤ b → c ≤ d) → (c ≤ d → a ≤ b) → leb a b ≡ leb c d
-same_leb a b c d f g =
-    by_test (leb a b) (λ e. e ∙ sym (le-leb c d (f (leb-true a b e))))
-    (λ e. by_test (leb c d) (λ h. le-leb a b (g (leb-true c d h)) ∙ sym h) (λ h. e ∙ sym h))
 
 -- ---- a valid request
 
@@ -38,6 +33,11 @@ module _ (kind n : ℕ) (valid : request_valid kind n ≡ true) where
       elim (dec_lt kind 3) [ yes h ↦ omega (arith, size_short n (request_size h)) | no h ↦ request_span (omega arith) ]
 
 -- ---- alignment and pages
+
+-- the bits below a size are the remainder
+pub low_bits : (x n : ℕ) → is_size n ≡ true → bit_and x (n - 1) ≡ x % n
+low_bits x n h =
+    by_size n h (λ e. rw e (and_mask x 0)) (λ e. rw e (and_mask x 1)) (λ e. rw e (and_mask x 2)) (λ e. rw e (and_mask x 3))
 
 -- a span is aligned
 pub span_aligned : (kind offset n : ℕ) → 3 ≤ kind → aligned kind offset n ≡ true

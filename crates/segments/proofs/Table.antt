@@ -1,6 +1,6 @@
 -- The table's rule: one test over the whole table, which computes to true, and what it tells of the row that is found; then what
 -- the table permits. Assumes nothing.
-use Rattle.std.proofs.Common.{ℕ, zero, suc, ◌≤◌, ◌<◌, ◌≡◌, refl, sym, ap, ◌∙◌, Bool, true, false, not, List, [], ◌∷◌, ⊎_elim, arith, eqb, ltb-true, lt-ltb, le-ltb, eqb-true, eq-eqb, ne_eqb}
+use Rattle.std.proofs.Common.{ℕ, zero, suc, ◌≤◌, ◌<◌, ◌≡◌, refl, sym, ap, ◌∙◌, Bool, true, false, not, Option, Some, None, List, [], ◌∷◌, ⊎_elim, arith, eqb, ltb-true, lt-ltb, le-ltb, eqb-true, eq-eqb, ne_eqb}
 use mathlib.Core.List.{Memᴰ}
 use Rattle.std.proofs.Math.Decide.{dec_lt}
 use borrow.Author.Tests.{not-true}
@@ -19,8 +19,6 @@ use Rattle.segments.specs.declared.rules.FetchRule.TheVariants.{Nowhere, Everywh
 use Rattle.segments.specs.declared.rules.StoreRule.{StoreRule}
 use Rattle.segments.specs.declared.rules.StoreRule.TheVariants.{Never, Owner, Tag}
 use Rattle.segments.specs.declared.rules.Row.{Row}
-use Rattle.segments.specs.declared.rules.Segment.{Segment}
-use Rattle.segments.specs.declared.rules.Segment.TheVariants.{Is, Missing}
 use Rattle.segments.proofs.Rows.{row_found}
 
 -- ---- the test
@@ -169,17 +167,17 @@ data_row = row 3 AnyAccount Both Data Running Owner
 
 module _ (i n : ℕ) where
   -- it is that of type 3 and an account's index
-  pub data_row_lem : i < n → row_of rules 3 i n ≡ Is data_row
+  pub data_row_lem : i < n → row_of rules 3 i n ≡ Some data_row
   unfolding row_of rules
   data_row_lem h = rw (lt-ltb i n h)
 
   -- type 3 has no other
-  pub data_none : n ≤ i → row_of rules 3 i n ≡ Missing
+  pub data_none : n ≤ i → row_of rules 3 i n ≡ None
   unfolding row_of rules
   data_none h = rw (le-ltb i n h)
 
   -- a row of type 3 is of account data
-  pub type_data : (r : Row) → row_of rules 3 i n ≡ Is r → r.presence ≡ Data
+  pub type_data : (r : Row) → row_of rules 3 i n ≡ Some r → r.presence ≡ Data
   type_data r e =
       elim (dec_lt i n) [
         | yes h ↦ let q : r ≡ data_row = cc (data_row_lem h) in ap (λ (x : Row). x.presence) q
@@ -193,7 +191,7 @@ abbrev pub program_row : Row
 program_row = row 0 (Exactly 3) Newer Program Everywhere Never
 
 -- it is that of 0/3
-pub program-row : (n : ℕ) → row_of rules 0 3 n ≡ Is program_row
+pub program-row : (n : ℕ) → row_of rules 0 3 n ≡ Some program_row
 unfolding row_of rules
 program-row n = refl
 
@@ -203,7 +201,7 @@ known : (x : IndexRule) (i n : ℕ) → any_account x ≡ true → index_matches
 known (Exactly k) i n e h = absurd (differ false e refl)
 known AnyAccount i n e h = ltb-true i n h
 
-module _ (t i n : ℕ) (r : Row) (found : row_of rules t i n ≡ Is r) where
+module _ (t i n : ℕ) (r : Row) (found : row_of rules t i n ≡ Some r) where
   member : Memᴰ r rules
   member = (row_found t i n rules r found).1
 
@@ -272,31 +270,31 @@ module _ (t i n : ℕ) (r : Row) (found : row_of rules t i n ≡ Is r) where
 -- ---- the row in an edition
 
 -- a segment is the row that was found, and the edition has it
-in_found : (v : ℕ) (x : Segment) (r : Row) → in_edition v x ≡ Is r → (x ≡ Is r) × (edition_matches r.editions v ≡ true)
-in_found v Missing r e = let z : ◌≡◌ {A = ℕ} 0 1 = cc in absurd (omega arith)
-in_found v (Is q) r e =
+in_found : (v : ℕ) (x : Option Row) (r : Row) → in_edition v x ≡ Some r → (x ≡ Some r) × (edition_matches r.editions v ≡ true)
+in_found v None r e = let z : ◌≡◌ {A = ℕ} 0 1 = cc in absurd (omega arith)
+in_found v (Some q) r e =
     by_test (edition_matches q.editions v)
-    (λ h. let k : Is q ≡ Is r = rw h at e in let same : q ≡ r = cc in (k, rw same at h))
-    (λ h. let k : Missing ≡ Is r = rw h at e in let z : ◌≡◌ {A = ℕ} 0 1 = cc in absurd (omega arith))
+    (λ h. let k : Some q ≡ Some r = rw h at e in let same : q ≡ r = cc in (k, rw same at h))
+    (λ h. let k : None ≡ Some r = rw h at e in let z : ◌≡◌ {A = ℕ} 0 1 = cc in absurd (omega arith))
 
 module _ (v t i n : ℕ) where
   -- so it is the row of the pair
-  pub segment_found : (r : Row) → segment_of v t i n ≡ Is r → (row_of rules t i n ≡ Is r) × (edition_matches r.editions v ≡ true)
+  pub segment_found : (r : Row) → segment_of v t i n ≡ Some r → (row_of rules t i n ≡ Some r) × (edition_matches r.editions v ≡ true)
   unfolding segment_of
   segment_found r e = in_found v (row_of rules t i n) r e
 
   -- and back
-  pub segment_is : (r : Row) → row_of rules t i n ≡ Is r → edition_matches r.editions v ≡ true → segment_of v t i n ≡ Is r
+  pub segment_is : (r : Row) → row_of rules t i n ≡ Some r → edition_matches r.editions v ≡ true → segment_of v t i n ≡ Some r
   unfolding segment_of
   segment_is r found has = rw (found, has)
 
   -- where the pair has no row there is none
-  pub segment_none : row_of rules t i n ≡ Missing → segment_of v t i n ≡ Missing
+  pub segment_none : row_of rules t i n ≡ None → segment_of v t i n ≡ None
   unfolding segment_of
   segment_none none = rw none
 
 -- the older edition has none of 0/3: "index 3 of type 0 is reserved"
-pub older_none : (n : ℕ) → segment_of older 0 3 n ≡ Missing
+pub older_none : (n : ℕ) → segment_of older 0 3 n ≡ None
 unfolding segment_of
 older_none n = rw (program-row n)
 

@@ -1,6 +1,6 @@
 -- Document 01, "Addresses and segments": "The rules by type stand in one constant table", for both editions of document 02, "Six". Assumes
 -- nothing.
-use Rattle.std.specs.Prelude.{ℕ, Bool, true, false, not, List, [], ◌∷◌, nat_lt, nat_eq}
+use Rattle.std.specs.Prelude.{ℕ, Bool, true, false, not, Option, Some, None, List, [], ◌∷◌, nat_lt, nat_eq}
 use Rattle.layout.specs.Control.{newer}
 use Rattle.choice.specs.Choice.{pick, both, either}
 use Rattle.segments.specs.Kinds.{is_store, is_fetch}
@@ -15,8 +15,6 @@ use Rattle.segments.specs.declared.rules.FetchRule.TheVariants.{Nowhere, Everywh
 use Rattle.segments.specs.declared.rules.StoreRule.{StoreRule}
 use Rattle.segments.specs.declared.rules.StoreRule.TheVariants.{Never, Owner, Tag}
 use Rattle.segments.specs.declared.rules.Row.{Row}
-use Rattle.segments.specs.declared.rules.Segment.{Segment}
-use Rattle.segments.specs.declared.rules.Segment.TheVariants.{Is, Missing}
 
 -- a row of the table "Type | Index | Bytes present | Store", with a column for the editions that have it and one for where a fetch is allowed
 abbrev pub row : ℕ → IndexRule → Editions → Presence → FetchRule → StoreRule → Row
@@ -46,9 +44,9 @@ abbrev pub row_matches : Row → ℕ → ℕ → ℕ → Bool
 row_matches r segment index count = both (nat_eq r.segment segment) (index_matches r.index index count)
 
 -- the row of a pair: "Any other pair, also 0/0 and all of types 1, 4 and 6, is no segment."
-unfoldable pub row_of : List Row → ℕ → ℕ → ℕ → Segment
-row_of [] segment index count = Missing
-row_of (r ∷ rs) segment index count = pick (row_matches r segment index count) (Is r) (row_of rs segment index count)
+unfoldable pub row_of : List Row → ℕ → ℕ → ℕ → Option Row
+row_of [] segment index count = None
+row_of (r ∷ rs) segment index count = pick (row_matches r segment index count) (Some r) (row_of rs segment index count)
 
 -- the column of editions
 abbrev pub edition_matches : Editions → ℕ → Bool
@@ -56,12 +54,12 @@ edition_matches Both edition = true
 edition_matches Newer edition = nat_eq edition newer
 
 -- a row that the edition does not have is no segment
-abbrev pub in_edition : ℕ → Segment → Segment
-in_edition edition Missing = Missing
-in_edition edition (Is r) = pick (edition_matches r.editions edition) (Is r) Missing
+abbrev pub in_edition : ℕ → Option Row → Option Row
+in_edition edition None = None
+in_edition edition (Some r) = pick (edition_matches r.editions edition) (Some r) None
 
 -- the segment of a pair in an edition
-unfoldable pub segment_of : ℕ → ℕ → ℕ → ℕ → Segment
+unfoldable pub segment_of : ℕ → ℕ → ℕ → ℕ → Option Row
 segment_of edition segment index count = in_edition edition (row_of rules segment index count)
 
 -- the column for a fetch: "Fetch is allowed in 0/3 only", or in the older edition "in type 3 for the current program's account", which is what

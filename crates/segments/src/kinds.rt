@@ -24,56 +24,39 @@ pub const STORE_SPAN: u8 = 4;
 pub fn is_store(kind: u8) -> bool
     ensures { result ≡ is_store kind }
 {
-    if kind == STORE {
-        return true;
-    }
-    kind == STORE_SPAN
+    kind == STORE || kind == STORE_SPAN
 }
 
 // Whether the length is one of a load, a store or a fetch.
 fn is_size(n: usize) -> bool
     ensures { result ≡ is_size n }
 {
-    if n == 1 {
-        return true;
-    }
-    if n == 2 {
-        return true;
-    }
-    if n == 4 {
-        return true;
-    }
-    n == 8
+    matches!(n, 1 | 2 | 4 | 8)
 }
 
 // Whether the kind is known and the length is one that it takes.
+#[tactic(auto, unfolding(crate::specs::Kinds::request_valid))]
 pub fn request_valid(kind: u8, n: usize) -> bool
     ensures { result ≡ request_valid kind n }
 {
     if kind < LOAD_SPAN {
-        return is_size(n);
+        is_size(n)
+    } else {
+        kind <= STORE_SPAN && matches!(n, 1..=PAGE)
     }
-    if STORE_SPAN < kind {
-        return false;
-    }
-    if n < 1 {
-        return false;
-    }
-    n <= PAGE
 }
 
 // Whether the offset is divisible by the length; a span is never misaligned. A length of 1, 2, 4 or 8 divides where the bits below it are 0.
+#[tactic(auto, using(crate::proofs::Requests::request_size, crate::proofs::Requests::low_bits, words::proofs::Sizes::size_short), unfolding(crate::specs::Kinds::aligned))]
 pub fn aligned(kind: u8, offset: usize, n: usize) -> bool
     requires { request_valid kind n ≡ true }
     ensures { result ≡ aligned kind offset n }
 {
-    if LOAD_SPAN <= kind {
-        return true;
-    }
-    offset & (n - 1) == 0
+    LOAD_SPAN <= kind || offset & (n - 1) == 0
 }
 
 // Whether n bytes from the offset on stay in one page.
+#[tactic(auto, unfolding(crate::specs::Kinds::within))]
 pub fn within(offset: usize, n: usize) -> bool
     ensures { result ≡ within offset n }
 {

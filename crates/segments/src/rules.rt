@@ -1,6 +1,5 @@
 // The constant table of segments, and the check that reads it.
 ghost use Rattle.std.specs.Prelude.{◌≡◌};
-ghost use Rattle.segments.specs.declared.rules.Segment.TheVariants.{Is};
 ghost use Rattle.segments.specs.Rules.{index_matches, row_matches, edition_matches, in_edition, segment_of, storable, permitted, fetchable};
 
 use super::kinds::{FETCH, is_store};
@@ -8,21 +7,46 @@ use layout::control::NEWER;
 
 // Which indices a row is for. The index is a usize so that a row is no whole number of at most 8 bytes: such a one the compiler moves about as a
 // number, and takes apart again.
-#[derive(Clone, Copy)]
+#[derive(Clone, Copy, PartialEq, Eq, Debug)]
 pub enum IndexRule {
     Exactly(usize),
     AnyAccount,
 }
 
+impl IndexRule {
+    // Whether it takes the index, with so many accounts.
+    fn takes(self, index: u16, accounts: usize) -> bool
+        ensures { result ≡ index_matches self index accounts }
+    {
+        let index = usize::from(index);
+        match self {
+            IndexRule::Exactly(k) => index == k,
+            IndexRule::AnyAccount => index < accounts,
+        }
+    }
+}
+
 // Which editions have a row.
-#[derive(Clone, Copy)]
+#[derive(Clone, Copy, PartialEq, Eq, Debug)]
 pub enum Editions {
     Both,
     Newer,
 }
 
+impl Editions {
+    // Whether the edition is one of them.
+    fn include(self, edition: usize) -> bool
+        ensures { result ≡ edition_matches self edition }
+    {
+        match self {
+            Editions::Both => true,
+            Editions::Newer => edition == NEWER,
+        }
+    }
+}
+
 // Which bytes of a segment are present.
-#[derive(Clone, Copy)]
+#[derive(Clone, Copy, PartialEq, Eq, Debug)]
 pub enum Presence {
     Transaction,
     Shadow,
@@ -35,23 +59,50 @@ pub enum Presence {
 }
 
 // Where a fetch is allowed in a segment: nowhere, everywhere, or in the account that the older edition runs.
-#[derive(Clone, Copy)]
+#[derive(Clone, Copy, PartialEq, Eq, Debug)]
 pub enum FetchRule {
     Nowhere,
     Everywhere,
     Running,
 }
 
+impl FetchRule {
+    // Whether it lets a fetch pass. `running` says whether the segment is the data of the account that the older edition runs.
+    fn allows(self, running: bool) -> bool
+        ensures { result ≡ fetchable self running }
+    {
+        match self {
+            FetchRule::Nowhere => false,
+            FetchRule::Everywhere => true,
+            FetchRule::Running => running,
+        }
+    }
+}
+
 // Who may store.
-#[derive(Clone, Copy)]
+#[derive(Clone, Copy, PartialEq, Eq, Debug)]
 pub enum StoreRule {
     Never,
     Owner,
     Tag,
 }
 
+impl StoreRule {
+    // Whether it lets a store pass, but for the tag, which the frame tells. `owned` says whether the account is writable and owned by the
+    // current program.
+    fn allows(self, owned: bool) -> bool
+        ensures { result ≡ storable self owned }
+    {
+        match self {
+            StoreRule::Never => false,
+            StoreRule::Owner => owned,
+            StoreRule::Tag => true,
+        }
+    }
+}
+
 // A row of the table: a segment type, its indices, the editions that have it, its bytes present, where a fetch is allowed, who may store.
-#[derive(Clone, Copy)]
+#[derive(Clone, Copy, PartialEq, Eq, Debug)]
 pub struct Row {
     pub segment: u8,
     pub index: IndexRule,
@@ -61,11 +112,13 @@ pub struct Row {
     pub store: StoreRule,
 }
 
-// What looking for a segment finds.
-#[derive(Clone, Copy)]
-pub enum Segment {
-    Is(Row),
-    Missing,
+impl Row {
+    // Whether the row is that of the pair.
+    fn is_of(&self, segment: u8, index: u16, accounts: usize) -> bool
+        ensures { result ≡ row_matches self.now segment index accounts }
+    {
+        self.segment == segment && self.index.takes(index, accounts)
+    }
 }
 
 // The rules by type: a new segment type is one row, and one case of presence.
@@ -136,96 +189,32 @@ const RULES: [Row; 8] = [
     },
 ];
 
-// Whether a row's index rule takes the index, with so many accounts.
-fn index_matches(r: IndexRule, index: u16, accounts: usize) -> bool
-    ensures { result ≡ index_matches r index accounts }
-{
-    match r {
-        IndexRule::Exactly(k) => index as usize == k,
-        IndexRule::AnyAccount => (index as usize) < accounts,
-    }
-}
-
-// Whether a row is that of the pair.
-fn row_matches(r: Row, segment: u8, index: u16, accounts: usize) -> bool
-    ensures { result ≡ row_matches r segment index accounts }
-{
-    if r.segment == segment {
-        let rule = r.index;
-        return index_matches(rule, index, accounts);
-    }
-    false
-}
-
-// Whether the column has the edition.
-fn edition_matches(e: Editions, edition: usize) -> bool
-    ensures { result ≡ edition_matches e edition }
-{
-    match e {
-        Editions::Both => true,
-        Editions::Newer => edition == NEWER,
-    }
-}
-
-// The segment of a row, where the edition has it. Asked outside the search's loop: in it the compiler asks first, and has the loop twice.
-fn in_edition(r: Row, edition: usize) -> Segment
-    ensures { result ≡ in_edition edition (Is r) }
-{
-    let editions = r.editions;
-    if edition_matches(editions, edition) {
-        return Segment::Is(r);
-    }
-    Segment::Missing
-}
-
-// The segment of a type and an index in an edition, with so many accounts.
-pub fn segment_of(edition: usize, segment: u8, index: u16, accounts: usize) -> Segment
+// The segment of a type and an index in an edition, with so many accounts. The edition is asked of the row that was found: asked in the search, it
+// would be asked first, and the search be there twice. By index in a copy of the table: so the search becomes a jump to the row, whose columns are
+// constants there. A `find` answers a place in the table, in which each access would read them, and a loop over references goes row by row.
+pub fn segment_of(edition: usize, segment: u8, index: u16, accounts: usize) -> Option<Row>
     ensures { result ≡ segment_of edition segment index accounts }
 {
     let rows = RULES;
-    let mut i: usize = 0;
-    while i < 8 {
-        let r = rows[i];
-        if row_matches(r, segment, index, accounts) {
-            return in_edition(r, edition);
+    for i in 0..rows.len() {
+        let row = rows[i];
+        if row.is_of(segment, index, accounts) {
+            return row.editions.include(edition).then_some(row);
         }
-        i += 1;
     }
-    Segment::Missing
-}
-
-// Whether the fetch rule lets a fetch pass. `running` says whether the segment is the data of the account that the older edition runs.
-fn fetchable(rule: FetchRule, running: bool) -> bool
-    ensures { result ≡ fetchable rule running }
-{
-    match rule {
-        FetchRule::Nowhere => false,
-        FetchRule::Everywhere => true,
-        FetchRule::Running => running,
-    }
-}
-
-// Whether the store rule lets a store pass, but for the tag, which the frame tells. `owned` says whether the account is writable and
-// owned by the current program.
-fn storable(rule: StoreRule, owned: bool) -> bool
-    ensures { result ≡ storable rule owned }
-{
-    match rule {
-        StoreRule::Never => false,
-        StoreRule::Owner => owned,
-        StoreRule::Tag => true,
-    }
+    None
 }
 
 // Whether the table's fixed, account and fetch rules permit the kind.
+#[tactic(auto, unfolding(crate::specs::Rules::permitted))]
 pub fn permitted(kind: u8, fetch: FetchRule, store: StoreRule, running: bool, owned: bool) -> bool
     ensures { result ≡ permitted kind fetch store running owned }
 {
     if kind == FETCH {
-        return fetchable(fetch, running);
+        fetch.allows(running)
+    } else if is_store(kind) {
+        store.allows(owned)
+    } else {
+        true
     }
-    if is_store(kind) {
-        return storable(store, owned);
-    }
-    true
 }

@@ -7,11 +7,11 @@ use layout::snapshot::{ACCOUNT_DATA, ACCOUNT_ENTRY, METADATA_AT, SNAPSHOT_HEADER
 use words::numbers::{u16_at, u32_at};
 
 // An account of the snapshot, by its number.
-#[derive(Clone, Copy)]
+#[derive(Clone, Copy, PartialEq, Eq, Debug)]
 pub struct Account(pub u16);
 
 // The fields of an account entry before its metadata.
-#[derive(Clone, Copy)]
+#[derive(Clone, Copy, PartialEq, Eq, Debug)]
 pub struct AccountEntry {
     pub flags: u16,
     pub owner: Account,
@@ -32,52 +32,34 @@ impl AccountEntry {
     pub fn writable(self) -> bool
         ensures { result ≡ writable self }
     {
-        if self.exists() {
-            return self.flags / 2 % 2 == 1;
-        }
-        false
+        self.exists() && self.flags / 2 % 2 == 1
     }
 
     // The length of the account's data: 0 where it does not exist.
     pub fn data_length(self) -> usize
         ensures { result ≡ data_length self }
     {
-        if self.exists() {
-            return self.length;
-        }
-        0
+        if self.exists() { self.length } else { 0 }
     }
 
     // Whether the fields of an account that exists keep their rules.
+    #[tactic(auto, unfolding(crate::specs::Accounts::body_valid))]
     fn body_valid(self, data_at: usize, total: usize) -> bool
         ensures { result ≡ body_valid data_at total self }
     {
-        if self.zero != 0 {
-            return false;
-        }
-        if ACCOUNT_DATA < self.length {
-            return false;
-        }
-        if self.start < data_at {
-            return false;
-        }
-        if total < self.start {
-            return false;
-        }
-        self.length <= total - self.start
+        self.zero == 0
+            && self.length <= ACCOUNT_DATA
+            && data_at <= self.start
+            && self.start <= total
+            && self.length <= total - self.start
     }
 
     // Whether the entry is valid in a snapshot whose data lies between `data_at` and `total`.
+    #[tactic(auto, unfolding(crate::specs::Accounts::valid_within))]
     pub fn valid(self, data_at: usize, total: usize) -> bool
         ensures { result ≡ valid_within data_at total self }
     {
-        if 3 < self.flags {
-            return false;
-        }
-        if self.exists() {
-            return self.body_valid(data_at, total);
-        }
-        true
+        self.flags <= 3 && (!self.exists() || self.body_valid(data_at, total))
     }
 }
 
@@ -85,7 +67,7 @@ impl AccountEntry {
 fn entry_at(a: Account) -> usize
     ensures { result ≡ entry_at a }
 {
-    SNAPSHOT_HEADER + ACCOUNT_ENTRY * (a.0 as usize)
+    SNAPSHOT_HEADER + ACCOUNT_ENTRY * usize::from(a.0)
 }
 
 // Where an account's metadata starts.
@@ -96,6 +78,7 @@ pub fn metadata_at(a: Account) -> usize
 }
 
 // An account's entry. The slice holds it whole.
+#[tactic(auto, unfolding(crate::specs::Accounts::entry_of))]
 pub fn whole_account_entry(s: &[u8], a: Account) -> AccountEntry
     requires { entry_at a + entry_size ≤ length s.now }
     ensures { result ≡ entry_of s.now a }

@@ -9,7 +9,7 @@ use layout::snapshot::{
 use words::numbers::u32_at;
 
 // The eight words of the header.
-#[derive(Clone, Copy)]
+#[derive(Clone, Copy, PartialEq, Eq, Debug)]
 pub struct Header {
     pub accounts: usize,
     pub contexts: usize,
@@ -22,6 +22,7 @@ pub struct Header {
 }
 
 // The header. The slice is long enough to hold it.
+#[tactic(auto, unfolding(crate::specs::Header::header_of))]
 pub fn whole_header(s: &[u8]) -> Header
     requires { header_size ≤ length s.now }
     ensures { result ≡ header_of s.now }
@@ -39,38 +40,29 @@ pub fn whole_header(s: &[u8]) -> Header
 }
 
 // Whether the counts are within their limits.
+#[tactic(auto, unfolding(crate::specs::Header::counts_valid))]
 fn counts_valid(h: Header) -> bool
     ensures { result ≡ counts_valid h }
 {
-    if ACCOUNTS < h.accounts {
-        return false;
-    }
-    if CONTEXTS < h.contexts {
-        return false;
-    }
-    h.transaction <= TRANSACTION
+    h.accounts <= ACCOUNTS && h.contexts <= CONTEXTS && h.transaction <= TRANSACTION
 }
 
 // Whether each offset is the one that the counts give. The counts are within their limits, so no sum wraps.
+#[tactic(auto, unfolding(crate::specs::Header::offsets_valid))]
 fn offsets_valid(h: Header) -> bool
     requires { (h.accounts ≤ account_limit) × (h.contexts ≤ context_limit) × (h.transaction ≤ transaction_limit) }
     ensures { result ≡ offsets_valid h }
 {
     let contexts_at = SNAPSHOT_HEADER + ACCOUNT_ENTRY * h.accounts;
     let transaction_at = contexts_at + CONTEXT * h.contexts;
-    if h.accounts_at != SNAPSHOT_HEADER {
-        return false;
-    }
-    if h.contexts_at != contexts_at {
-        return false;
-    }
-    if h.transaction_at != transaction_at {
-        return false;
-    }
-    h.data_at == transaction_at + h.transaction
+    h.accounts_at == SNAPSHOT_HEADER
+        && h.contexts_at == contexts_at
+        && h.transaction_at == transaction_at
+        && h.data_at == transaction_at + h.transaction
 }
 
-// Whether the snapshot is valid (document 01's fit): its header keeps every rule, and the total is the slice's length.
+// Whether the snapshot is valid: its header keeps every rule, and the total is the slice's length.
+#[tactic(auto, using(crate::proofs::Facts::counts_limited), unfolding(crate::specs::Header::snapshot_valid, crate::specs::Header::total_valid))]
 pub fn valid(s: &[u8]) -> bool
     ensures { result ≡ snapshot_valid s.now }
 {
@@ -78,17 +70,9 @@ pub fn valid(s: &[u8]) -> bool
         return false;
     }
     let h = whole_header(s);
-    if counts_valid(h) {
-        if offsets_valid(h) {
-            if h.total != s.len() {
-                return false;
-            }
-            if h.total < h.data_at {
-                return false;
-            }
-            return h.total <= SNAPSHOT;
-        }
-        return false;
-    }
-    false
+    counts_valid(h)
+        && offsets_valid(h)
+        && h.total == s.len()
+        && h.data_at <= h.total
+        && h.total <= SNAPSHOT
 }

@@ -1,4 +1,4 @@
-// The snapshot: the read-only buffer that every call is lent (document 01's ground). It holds the accounts' entries, the block
+// The snapshot: the read-only buffer that every call is lent. It holds the accounts' entries, the block
 // contexts, the transaction and the accounts' data. Functions that begin `whole_` read bytes that their callers know to be there.
 
 #![tactic(auto)]

@@ -7,25 +7,18 @@ use super::accounts::{Account, AccountEntry, whole_account_entry};
 use super::header::whole_header;
 use refusal::Refusal;
 
-// The entry of an account that is there and valid, or why there is none.
-#[derive(Clone, Copy)]
-pub enum Lookup {
-    Valid(AccountEntry),
-    Refused(Refusal),
-}
-
-// Looks an account up: its number is below the account count, and its entry is valid.
-pub fn look_up(s: &[u8], a: Account) -> Lookup
+// The entry of an account: its number is below the account count, and its entry is valid.
+pub fn look_up(s: &[u8], a: Account) -> Result<AccountEntry, Refusal>
     requires { snapshot_valid s.now ≡ true }
     ensures { result ≡ look_up s.now a }
 {
     let h = whole_header(s);
-    if (a.0 as usize) < h.accounts {
+    if usize::from(a.0) < h.accounts {
         let e = whole_account_entry(s, a);
         if e.valid(h.data_at, h.total) {
-            return Lookup::Valid(e);
+            return Ok(e);
         }
-        return Lookup::Refused(Refusal::Invalid);
+        return Err(Refusal::Invalid);
     }
-    Lookup::Refused(Refusal::NoSegment)
+    Err(Refusal::NoSegment)
 }

@@ -1,11 +1,9 @@
-// Document 02, "Three": in 1,024 entries, ten thousand searches that end at entry 0 against as many that end at the last. What was measured goes
-// to standard error; whether it is at most a tenth, to standard output.
+// In 1,024 entries, ten thousand searches that end at entry 0 against as many that end at the last. What was measured goes to standard error;
+// whether it is at most a tenth, to standard output.
 #![tactic(auto)]
 
-mod print;
 mod rounds;
 mod searches;
-mod sorted;
 mod table;
 
 use layout::control::{COPY, STACK};

@@ -2,9 +2,7 @@
 ghost use Rattle.std.specs.Prelude.{◌≡◌, true};
 ghost use Rattle.control.specs.Control.{control_valid};
 
-use super::print::{note, note_number, say};
 use super::searches::{Kind, search};
-use super::sorted::insert;
 use control::header::valid;
 use layout::control::FRAMES;
 use std::io;
@@ -38,20 +36,15 @@ fn time(rt: &impl CpuClock, c: &[u8], kind: Kind, entry: u16) -> u64
 
 // Says both medians, and whether the first is at most a tenth of the other. Nothing was timed where the other is 0.
 fn report(rt: &(impl Print + Eprint), page: &str, first: u64, last: u64) -> io::Result<()> {
-    note(rt, "10,000 searches for ")?;
-    note(rt, page)?;
-    note(rt, " in 1,024 entries: ")?;
-    note_number(rt, first)?;
-    note(rt, " us where they end at entry 0, ")?;
-    note_number(rt, last)?;
-    note(rt, " us where they end at the last\n")?;
-    say(rt, page)?;
+    eprintln!(rt;
+        "10,000 searches for {page} in 1,024 entries: {first} us where they end at entry 0, {last} us where they end at the last"
+    )?;
     if last == 0 {
-        say(rt, ": not timed\n")
+        println!(rt; "{page}: not timed")
     } else if last / 10 < first {
-        say(rt, ": more than a tenth\n")
+        println!(rt; "{page}: more than a tenth")
     } else {
-        say(rt, ": at most a tenth\n")
+        println!(rt; "{page}: at most a tenth")
     }
 }
 
@@ -61,10 +54,12 @@ fn rounds(rt: &(impl Print + Eprint + CpuClock), c: &[u8], kind: Kind, page: &st
 {
     let mut first = [0u64; ROUNDS];
     let mut last = [0u64; ROUNDS];
-    for n in 0..ROUNDS {
-        insert(&mut first, n, time(rt, c, kind, 0));
-        insert(&mut last, n, time(rt, c, kind, LAST));
+    for (of_first, of_last) in first.iter_mut().zip(last.iter_mut()) {
+        *of_first = time(rt, c, kind, 0);
+        *of_last = time(rt, c, kind, LAST);
     }
+    first.sort_unstable();
+    last.sort_unstable();
     report(rt, page, first[ROUNDS / 2], last[ROUNDS / 2])
 }
 
@@ -75,13 +70,8 @@ pub fn compare(
     kind: Kind,
     page: &str,
 ) -> io::Result<()> {
-    if valid(c) {
-        if search(c, kind, 0) == 0 {
-            if search(c, kind, LAST) == LAST {
-                return rounds(rt, c, kind, page);
-            }
-        }
+    if valid(c) && search(c, kind, 0) == Some(0) && search(c, kind, LAST) == Some(LAST) {
+        return rounds(rt, c, kind, page);
     }
-    say(rt, page)?;
-    say(rt, ": not found where it is\n")
+    println!(rt; "{page}: not found where it is")
 }

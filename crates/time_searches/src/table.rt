@@ -39,7 +39,7 @@ pub fn write_table(c: &mut [u8], usage: u8)
     requires { length c.old ≡ control_length frame_limit }
 {
     write_header(c);
-    for i in 0..FRAMES {
-        put_frame_entry(c, Frame(i as u16), entry(i as u16, usage));
+    for i in 0..FRAMES as u16 {
+        put_frame_entry(c, Frame(i), entry(i, usage));
     }
 }

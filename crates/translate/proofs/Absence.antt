@@ -1,5 +1,5 @@
 -- What 13 says: the byte at the distance is absent, every byte before it is present, and the distance is below the length. Assumes nothing.
-use Rattle.std.proofs.Common.{ℕ, ◌+◌, ◌-◌, ◌*◌, ◌/◌, ◌%◌, ◌≤◌, ◌<◌, ◌≡◌, refl, sym, ap, Bool, true, false, not, List, arith, ltb, leb, eqb, ltb-true, leb-false, lt-ltb, le-ltb}
+use Rattle.std.proofs.Common.{ℕ, ◌+◌, ◌-◌, ◌*◌, ◌/◌, ◌%◌, ◌≤◌, ◌<◌, ◌≡◌, refl, sym, ap, Bool, true, false, not, Some, List, arith, ltb, leb, eqb, ltb-true, leb-false, lt-ltb, le-ltb}
 use Rattle.layout.specs.Page.{page_size}
 use Rattle.layout.specs.Address.{offsets}
 use Rattle.layout.specs.Snapshot.{context_size}
@@ -14,31 +14,28 @@ use Rattle.control.specs.Control.{depth}
 use Rattle.control.specs.declared.shadow.Region.TheVariants as region
 use Rattle.frames.specs.Table.{frame_entry_of, frame_of, free_frame}
 use Rattle.frames.specs.declared.claim.End.TheVariants.{Highest}
-use Rattle.frames.specs.declared.claim.Found.{Found}
-use Rattle.frames.specs.declared.claim.Found.TheVariants.{At, Nothing}
 use Rattle.segments.specs.Kinds.{is_store}
 use Rattle.segments.specs.Rules.{rules, row_of}
 use Rattle.segments.specs.declared.rules.Presence.{Presence}
 use Rattle.segments.specs.declared.rules.Presence.TheVariants.{Transaction, Shadow, Program, Context, Metadata, Data, Stack, Heap}
 use Rattle.segments.specs.declared.rules.Row.{Row}
-use Rattle.segments.specs.declared.rules.Segment.TheVariants.{Is}
 use Rattle.segments.proofs.Requests.{request_length}
-use Rattle.translate.specs.Place.{distance_of_answer}
+use Rattle.translate.specs.Place.{distance_of_answer, Translation}
 use Rattle.translate.specs.Presence.{present_at}
 use Rattle.translate.specs.Translate.{context_end, region_end, end_of, copy_place, data_place_in, data_place, region_place_in, region_place, place_in, place_of, translate_of}
 use Rattle.translate.specs.declared.request.Request.{Request}
 use Rattle.translate.specs.declared.sought.Source.{Source}
 use Rattle.translate.specs.declared.sought.Source.TheVariants as source
-use Rattle.translate.specs.declared.place.Translation.{Translation}
-use Rattle.translate.specs.declared.place.Translation.TheVariants.{Allowed, Refused}
 use Rattle.translate.proofs.Accepted.{request_of, account_of, Apart, row-tested, present_place, in_row_lem}
+use Rattle.std.specs.Prelude.{Err, None, Ok, Option, Some}
+use Rattle.pages.specs.declared.Frame.{Frame}
 
 -- ---- an answer of 13 is presence's
 
 -- whether the answer is 13
 abbrev absent : Translation → Bool
-absent (Allowed q) = false
-absent (Refused r) = eqb (number_of r) 13
+absent (Ok q) = false
+absent (Err r) = eqb (number_of r) 13
 
 -- no test before presence gives it
 absent_apart : Apart absent
@@ -46,18 +43,18 @@ absent_apart =
     record { invalid = refl; request = refl; address = refl; segment = refl; alignment = refl; permission = refl; crossing = refl }
 
 -- nor does a place
-copy_there : (q : Request) (x : Found) → absent (copy_place (record { 0 = q.index }) q.offset x) ≡ false
-copy_there q (At f) = refl
-copy_there q Nothing = refl
+copy_there : (q : Request) (x : Option Frame) → absent (copy_place (record { 0 = q.index }) q.offset x) ≡ false
+copy_there q (Some f) = refl
+copy_there q None = refl
 
-data_there : (c : List ℕ) (q : Request) (at : ℕ) (x : Found) → absent (data_place_in c q.kind (record { 0 = q.index }) q.offset at x) ≡ false
-data_there c q at (At f) = refl
-data_there c q at Nothing = by_test (is_store q.kind) (λ e. rw e (copy_there q (free_frame Highest c))) (λ e. rw e)
+data_there : (c : List ℕ) (q : Request) (at : ℕ) (x : Option Frame) → absent (data_place_in c q.kind (record { 0 = q.index }) q.offset at x) ≡ false
+data_there c q at (Some f) = refl
+data_there c q at None = by_test (is_store q.kind) (λ e. rw e (copy_there q (free_frame Highest c))) (λ e. rw e)
 
-region_there : (c : List ℕ) (q : Request) (x : Found) → absent (region_place_in c q.kind q.offset x) ≡ false
-region_there c q (At f) =
+region_there : (c : List ℕ) (q : Request) (x : Option Frame) → absent (region_place_in c q.kind q.offset x) ≡ false
+region_there c q (Some f) =
     by_test (either (not (is_store q.kind)) (leb (depth c) (frame_entry_of c f.0).tag)) (λ e. rw e) (λ e. rw e)
-region_there c q Nothing = refl
+region_there c q None = refl
 
 place_there : (c : List ℕ) (q : Request) (x : Source) (at : ℕ) → absent (place_in c q x at) ≡ false
 unfolding place_in data_place region_place
@@ -66,7 +63,7 @@ place_there c q source.Copy at = data_there c q at (frame_of c _)
 place_there c q (source.Region r) at = region_there c q (frame_of c _)
 
 -- so the bytes are not all present, and the distance is the count of those that are
-counted : (s c : List ℕ) (p : Presence) (q : Request) (d : ℕ) → present_place s c p q ≡ Refused (Absent d)
+counted : (s c : List ℕ) (p : Presence) (q : Request) (d : ℕ) → present_place s c p q ≡ Err (Absent d)
     → (end_of s c p q < q.offset + q.length) × (d ≡ end_of s c p q - q.offset)
 unfolding place_of need
 counted s c p q d e =
@@ -137,11 +134,11 @@ module _ (s c : List ℕ) (kind a n d : ℕ) (some : 1 ≤ n) (within : offset_o
 -- the row that an address leads to, and the bytes of its segment
 pub record AbsentAt (s c : List ℕ) (a n d : ℕ) : Type 0 where
   pub row : Row
-  pub found : row_of rules (type_of a) (index_of a) (accounts s) ≡ Is row
+  pub found : row_of rules (type_of a) (index_of a) (accounts s) ≡ Some row
   pub bytes : Absence (present_at s c row.presence (account_of a)) (offset_of a) n d
 
 -- "With 13 an access also gives the distance from its first byte to the first absent one"
-pub absent_law : (s c p : List ℕ) (kind a n d : ℕ) → translate_of s c p kind a n ≡ Refused (Absent d) → AbsentAt s c a n d
+pub absent_law : (s c p : List ℕ) (kind a n d : ℕ) → translate_of s c p kind a n ≡ Err (Absent d) → AbsentAt s c a n d
 absent_law s c p kind a n d e =
     let x = in_row_lem s c p kind a n absent absent_apart e refl in
     let t = row-tested s c x.row.presence x.row.fetch x.row.store (request_of kind a n) absent absent_apart _ refl x.given in
@@ -152,23 +149,23 @@ absent_law s c p kind a n d e =
 module _ (s c p : List ℕ) (kind a n : ℕ) where
   -- by the answer: "else 0"
   near : (t : Translation) → translate_of s c p kind a n ≡ t → distance_of_answer t < page_size
-  near (Allowed q) e = omega arith
-  near (Refused Invalid) e = omega arith
-  near (Refused BadRequest) e = omega arith
-  near (Refused BadAddress) e = omega arith
-  near (Refused NoSegment) e = omega arith
-  near (Refused Misaligned) e = omega arith
-  near (Refused Crossing) e = omega arith
-  near (Refused NotPermitted) e = omega arith
-  near (Refused NoFrame) e = omega arith
-  near (Refused DepthLimit) e = omega arith
-  near (Refused TooManyPages) e = omega arith
-  near (Refused ShortOutput) e = omega arith
-  near (Refused BadList) e = omega arith
-  near (Refused (Absent d)) e =
+  near (Ok q) e = omega arith
+  near (Err Invalid) e = omega arith
+  near (Err BadRequest) e = omega arith
+  near (Err BadAddress) e = omega arith
+  near (Err NoSegment) e = omega arith
+  near (Err Misaligned) e = omega arith
+  near (Err Crossing) e = omega arith
+  near (Err NotPermitted) e = omega arith
+  near (Err NoFrame) e = omega arith
+  near (Err DepthLimit) e = omega arith
+  near (Err TooManyPages) e = omega arith
+  near (Err ShortOutput) e = omega arith
+  near (Err BadList) e = omega arith
+  near (Err (Absent d)) e =
       let x = in_row_lem s c p kind a n absent absent_apart e refl in
       omega (arith, (absent_law s c p kind a n d e).bytes.below, (request_length kind n x.request).1)
-  near (Refused BadRecord) e = omega arith
+  near (Err BadRecord) e = omega arith
 
   -- a distance is below a page's length
   pub distance_near : distance_of_answer (translate_of s c p kind a n) < page_size

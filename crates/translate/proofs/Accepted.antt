@@ -1,13 +1,11 @@
 -- What an answer of translation says of the tests before it: those before presence, where no refusal of theirs is the answer; all of
 -- them, where no test gives it, and that it is the place of the row. With it what that means in account data. Assumes nothing.
-use Rattle.std.proofs.Common.{ℕ, ◌+◌, ◌-◌, ◌%◌, ◌≤◌, ◌<◌, ◌≡◌, refl, sym, ap, ◌∙◌, Bool, true, false, List, arith, eqb, leb, ltb-true, leb-true, lt-ltb, le-leb}
+use Rattle.std.proofs.Common.{ℕ, ◌+◌, ◌-◌, ◌%◌, ◌≤◌, ◌<◌, ◌≡◌, refl, sym, ap, ◌∙◌, Bool, true, false, Option, Some, None, List, arith, eqb, leb, ltb-true, leb-true, lt-ltb, le-leb}
 use Rattle.layout.specs.Page.{page_size}
 use Rattle.layout.specs.Address.{addresses}
 use Rattle.choice.proofs.Tests.{differ}
 use Rattle.refusal.specs.Numbers.{number_of}
-use Rattle.refusal.specs.Checks.{need, ◌then◌}
-use Rattle.refusal.specs.declared.Check.{Check}
-use Rattle.refusal.specs.declared.Check.TheVariants.{Pass, Stop}
+use Rattle.refusal.specs.Checks.{need, ◌then◌, Check}
 use Rattle.refusal.specs.declared.Refusal.{Refusal}
 use Rattle.refusal.specs.declared.Refusal.TheVariants.{Invalid, BadRequest, BadAddress, Absent, NoSegment, Misaligned, Crossing, NotPermitted, NoFrame}
 use Rattle.address.specs.Address.{type_of, index_of, offset_of}
@@ -21,17 +19,14 @@ use Rattle.segments.specs.declared.rules.FetchRule.{FetchRule}
 use Rattle.segments.specs.declared.rules.Presence.{Presence}
 use Rattle.segments.specs.declared.rules.Presence.TheVariants.{Transaction, Shadow, Program, Context, Metadata, Data, Stack, Heap}
 use Rattle.segments.specs.declared.rules.Row.{Row}
-use Rattle.segments.specs.declared.rules.Segment.{Segment}
-use Rattle.segments.specs.declared.rules.Segment.TheVariants.{Is, Missing}
 use Rattle.segments.specs.declared.rules.StoreRule.{StoreRule}
 use Rattle.segments.proofs.Requests.{request_length, within-length}
 use Rattle.segments.proofs.Table.{type_data, data_known, metadata_known, segment_found, segment_is}
-use Rattle.translate.specs.Place.{refusing}
+use Rattle.translate.specs.Place.{refusing, Translation}
 use Rattle.translate.specs.Checks.{first_checks, row_checks}
 use Rattle.translate.specs.Translate.{concerned_valid, owned, running, end_of, row_check, start_of, source_of, data_place, place_in, place_of, in_row, in_segment, translate_of, Named}
-use Rattle.translate.specs.declared.place.Translation.{Translation}
-use Rattle.translate.specs.declared.place.Translation.TheVariants.{Allowed, Refused}
 use Rattle.translate.specs.declared.request.Request.{Request}
+use Rattle.std.specs.Prelude.{Err, Ok}
 
 -- the request that an access makes
 abbrev pub request_of : ℕ → ℕ → ℕ → Request
@@ -42,7 +37,7 @@ abbrev pub account_of : ℕ → Account
 account_of a = record { 0 = index_of a }
 
 -- the row that was found names an account, where its index is one
-pub named : (s : List ℕ) (t : ℕ) (q : Request) (r : Row) → row_of rules t q.index (accounts s) ≡ Is r
+pub named : (s : List ℕ) (t : ℕ) (q : Request) (r : Row) → row_of rules t q.index (accounts s) ≡ Some r
     → (p : Presence) → r.presence ≡ p → Named s p q
 named s t q r f Transaction e = tt
 named s t q r f Shadow e = tt
@@ -57,27 +52,27 @@ named s t q r f Heap e = tt
 
 -- no test gives this answer: it is a place, or "last 8"
 abbrev pub last : Translation → Bool
-last (Allowed q) = true
-last (Refused r) = eqb (number_of r) (number_of NoFrame)
+last (Ok q) = true
+last (Err r) = eqb (number_of r) (number_of NoFrame)
 
 -- a chain refuses by its first part, or else by the rest
 refusing_then : (d e : Check) (t : Translation) → refusing (d then e) t ≡ refusing d (refusing e t)
 unfolding ◌then◌
-refusing_then Pass e t = refl
-refusing_then (Stop r) e t = refl
+refusing_then (Ok tt) e t = refl
+refusing_then (Err r) e t = refl
 
 -- a test of answers that no refusal before presence passes
 pub record Apart (f : Translation → Bool) : Type 0 where
-  pub invalid : f (Refused Invalid) ≡ false
-  pub request : f (Refused BadRequest) ≡ false
-  pub address : f (Refused BadAddress) ≡ false
-  pub segment : f (Refused NoSegment) ≡ false
-  pub alignment : f (Refused Misaligned) ≡ false
-  pub permission : f (Refused NotPermitted) ≡ false
-  pub crossing : f (Refused Crossing) ≡ false
+  pub invalid : f (Err Invalid) ≡ false
+  pub request : f (Err BadRequest) ≡ false
+  pub address : f (Err BadAddress) ≡ false
+  pub segment : f (Err NoSegment) ≡ false
+  pub alignment : f (Err Misaligned) ≡ false
+  pub permission : f (Err NotPermitted) ≡ false
+  pub crossing : f (Err Crossing) ≡ false
 
 -- where the answer passes one that a test's refusal does not pass, the test did
-peel : (f : Translation → Bool) (t : Translation) → f t ≡ true → (b : Bool) (r : Refusal) (y : Translation) → f (Refused r) ≡ false
+peel : (f : Translation → Bool) (t : Translation) → f t ≡ true → (b : Bool) (r : Refusal) (y : Translation) → f (Err r) ≡ false
     → refusing (need b r) y ≡ t → (b ≡ true) × (y ≡ t)
 unfolding need
 peel f t l true r y h e = (refl, e)
@@ -113,18 +108,18 @@ pub record InRow (s c p : List ℕ) (kind a n : ℕ) (t : Translation) : Type 0 
   pub request : request_valid kind n ≡ true
   pub address : a < addresses
   pub row : Row
-  pub found : row_of rules (type_of a) (index_of a) (accounts s) ≡ Is row
+  pub found : row_of rules (type_of a) (index_of a) (accounts s) ≡ Some row
   pub has : edition_matches row.editions (edition c) ≡ true
   pub given : in_row s c row.presence row.fetch row.store (request_of kind a n) ≡ t
 
 module _ (s c p : List ℕ) (kind a n : ℕ) (f : Translation → Bool) (x : Apart f) where
   -- once the first tests have passed
   in_segment_lem : {t : Translation} → f t ≡ true → buffers_valid s c p ≡ true → request_valid kind n ≡ true → a < addresses
-      → (g : Segment) → segment_of (edition c) (type_of a) (index_of a) (accounts s) ≡ g → in_segment s c g (request_of kind a n) ≡ t
+      → (g : Option Row) → segment_of (edition c) (type_of a) (index_of a) (accounts s) ≡ g → in_segment s c g (request_of kind a n) ≡ t
       → InRow s c p kind a n t
   unfolding in_segment
-  in_segment_lem {t} l b v h Missing w e = absurd (differ (f t) l (ap f (sym e) ∙ x.segment))
-  in_segment_lem l b v h (Is r) w e =
+  in_segment_lem {t} l b v h None w e = absurd (differ (f t) l (ap f (sym e) ∙ x.segment))
+  in_segment_lem l b v h (Some r) w e =
       let g = segment_found (edition c) (type_of a) (index_of a) (accounts s) r w in
       record { buffers = b; request = v; address = h; row = r; found = g.0; has = g.1; given = e }
 
@@ -174,7 +169,7 @@ pub record Accepted (s c p : List ℕ) (kind a n : ℕ) (t : Translation) : Type
   pub request : request_valid kind n ≡ true
   pub address : a < addresses
   pub row : Row
-  pub found : row_of rules (type_of a) (index_of a) (accounts s) ≡ Is row
+  pub found : row_of rules (type_of a) (index_of a) (accounts s) ≡ Some row
   pub has : edition_matches row.editions (edition c) ≡ true
   pub passed : RowPassed s c row.presence row.fetch row.store (request_of kind a n)
   pub place : place_of s c row.presence (request_of kind a n) ≡ t
@@ -224,7 +219,7 @@ pub data_accepted : (s c p : List ℕ) (kind a n : ℕ) {t : Translation} → tr
 unfolding concerned_valid end_of start_of source_of place_in place_of
 data_accepted s c p kind a n e l type =
     let x = accepted s c p kind a n e l in
-    let f : row_of rules 3 (index_of a) (accounts s) ≡ Is x.row = rw type at x.found in
+    let f : row_of rules 3 (index_of a) (accounts s) ≡ Some x.row = rw type at x.found in
     let d : x.row.presence ≡ Data = type_data (index_of a) (accounts s) x.row f in
     let w : RowPassed s c Data x.row.fetch x.row.store (request_of kind a n) = rw d at x.passed in
     let some : 1 ≤ n = (request_length kind n x.request).0 in (

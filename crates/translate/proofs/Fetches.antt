@@ -1,25 +1,21 @@
 -- Where a fetch is allowed, translation answers it as a load of the same bytes, refusals too; elsewhere it names no place. In the older edition
 -- 0/3 is no segment. Assumes nothing.
-use Rattle.std.proofs.Common.{ℕ, ◌≡◌, refl, sym, ◌∙◌, Bool, true, inl, inr, ⊎_elim, List, arith, eqb, eqb-true, eq-eqb}
+use Rattle.std.proofs.Common.{ℕ, ◌≡◌, refl, sym, ◌∙◌, Bool, true, inl, inr, ⊎_elim, Some, None, List, arith, eqb, eqb-true, eq-eqb}
 use Rattle.std.proofs.Math.Decide.{dec_lt}
 use Rattle.layout.specs.Control.{older}
 use Rattle.choice.proofs.Tests.{differ, both_true}
-use Rattle.refusal.specs.declared.Check.TheVariants.{Pass}
 use Rattle.refusal.specs.declared.Refusal.TheVariants.{NoSegment}
 use Rattle.address.specs.Address.{type_of, index_of, offset_of}
 use Rattle.snapshot.specs.Header.{accounts}
 use Rattle.snapshot.specs.declared.accounts.Account.{Account}
 use Rattle.control.specs.Control.{edition, buffers_valid}
 use Rattle.frames.specs.Table.{frame_of}
-use Rattle.frames.specs.declared.claim.Found.{Found}
-use Rattle.frames.specs.declared.claim.Found.TheVariants.{At, Nothing}
 use Rattle.segments.specs.Kinds.{kind_load, kind_fetch, request_valid, aligned}
 use Rattle.segments.specs.Rules.{rules, row_of, edition_matches, segment_of, fetchable, permitted}
 use Rattle.segments.specs.declared.rules.FetchRule.{FetchRule}
 use Rattle.segments.specs.declared.rules.Presence.{Presence}
 use Rattle.segments.specs.declared.rules.Presence.TheVariants.{Transaction, Shadow, Program, Context, Metadata, Data, Stack, Heap}
 use Rattle.segments.specs.declared.rules.Row.{Row}
-use Rattle.segments.specs.declared.rules.Segment.TheVariants.{Is, Missing}
 use Rattle.segments.specs.declared.rules.StoreRule.{StoreRule}
 use Rattle.segments.proofs.Table.{data_row, data_row_lem, data_none, data_type, program_row, program-row, program_is, program_pair, segment_is, segment_none, older_none, fetch_of, fetch_of_lem, permitted_fetch, permitted_load}
 use Rattle.translate.specs.Checks.{first_checks, row_checks}
@@ -27,19 +23,20 @@ use Rattle.translate.specs.Fetches.{InOwnData, InProgram, Fetchable}
 use Rattle.translate.specs.Translate.{program, concerned_valid, owned, running, end_of, start_of, source_of, row_check, data_place_in, data_place, region_place_in, region_place, place_in, place_of, in_row, in_segment, translate_of}
 use Rattle.translate.specs.declared.place.Place.{Place}
 use Rattle.translate.specs.declared.request.Request.{Request}
-use Rattle.translate.specs.declared.place.Translation.TheVariants.{Allowed, Refused}
 use Rattle.translate.proofs.Accepted.{request_of, accepted}
+use Rattle.std.specs.Prelude.{Err, None, Ok, Option, Some}
+use Rattle.pages.specs.declared.Frame.{Frame}
 
 -- ---- a fetch and a load in one row
 
 -- neither stores, so a page's frame gives both one place
-data_same : (c : List ℕ) (a : Account) (offset at : ℕ) (x : Found) → data_place_in c kind_fetch a offset at x ≡ data_place_in c kind_load a offset at x
-data_same c a offset at (At f) = refl
-data_same c a offset at Nothing = refl
+data_same : (c : List ℕ) (a : Account) (offset at : ℕ) (x : Option Frame) → data_place_in c kind_fetch a offset at x ≡ data_place_in c kind_load a offset at x
+data_same c a offset at (Some f) = refl
+data_same c a offset at None = refl
 
-region_same : (c : List ℕ) (offset : ℕ) (x : Found) → region_place_in c kind_fetch offset x ≡ region_place_in c kind_load offset x
-region_same c offset (At f) = refl
-region_same c offset Nothing = refl
+region_same : (c : List ℕ) (offset : ℕ) (x : Option Frame) → region_place_in c kind_fetch offset x ≡ region_place_in c kind_load offset x
+region_same c offset (Some f) = refl
+region_same c offset None = refl
 
 -- the same tests come first
 first_same : (valid : Bool) (a n : ℕ) → first_checks valid kind_fetch a n ≡ first_checks valid kind_load a n
@@ -106,14 +103,14 @@ module _ (s c : List ℕ) (a n : ℕ) where
 
   module _ (p : List ℕ) where
     -- in the row that is found
-    found_same : (r : Row) → segment_of (edition c) (type_of a) (index_of a) (accounts s) ≡ Is r
+    found_same : (r : Row) → segment_of (edition c) (type_of a) (index_of a) (accounts s) ≡ Some r
         → permitted kind_fetch r.fetch r.store (running c r.presence fetched) (owned s c r.presence fetched) ≡ true
         → translate_of s c p kind_fetch a n ≡ translate_of s c p kind_load a n
     unfolding translate_of in_segment
     found_same r found e = rw (found, first_same (buffers_valid s c p) a n, row_same r.presence r.fetch r.store e)
 
     -- where none is
-    none_same : segment_of (edition c) (type_of a) (index_of a) (accounts s) ≡ Missing → translate_of s c p kind_fetch a n ≡ translate_of s c p kind_load a n
+    none_same : segment_of (edition c) (type_of a) (index_of a) (accounts s) ≡ None → translate_of s c p kind_fetch a n ≡ translate_of s c p kind_load a n
     unfolding translate_of in_segment
     none_same none = rw (none, first_same (buffers_valid s c p) a n)
 
@@ -133,7 +130,7 @@ module _ (s c : List ℕ) (a n : ℕ) where
     -- in 0/3
     program_same : InProgram c a → translate_of s c p kind_fetch a n ≡ translate_of s c p kind_load a n
     program_same w =
-        let found : row_of rules (type_of a) (index_of a) (accounts s) ≡ Is program_row = rw (w.type, w.index) (program-row (accounts s)) in
+        let found : row_of rules (type_of a) (index_of a) (accounts s) ≡ Some program_row = rw (w.type, w.index) (program-row (accounts s)) in
         found_same program_row (segment_is (edition c) _ _ _ program_row found (eq-eqb _ _ w.built)) (permitted_fetch kind_fetch _ _ _ _ refl)
 
     -- in either
@@ -143,7 +140,7 @@ module _ (s c : List ℕ) (a n : ℕ) where
     -- ---- and nowhere else
 
     -- by the presence of the row
-    where_in : (r : Row) → row_of rules (type_of a) (index_of a) (accounts s) ≡ Is r → edition_matches r.editions (edition c) ≡ true
+    where_in : (r : Row) → row_of rules (type_of a) (index_of a) (accounts s) ≡ Some r → edition_matches r.editions (edition c) ≡ true
         → (q : Presence)
         → r.presence ≡ q
         → fetchable (fetch_of q) (running c q fetched) ≡ true
@@ -164,7 +161,7 @@ module _ (s c : List ℕ) (a n : ℕ) where
     where_in r found has Heap e h = absurd (differ true refl (sym h))
 
     -- a fetch that leads to a place
-    pub fetch_where : {q : Place} → translate_of s c p kind_fetch a n ≡ Allowed q → Fetchable c a
+    pub fetch_where : {q : Place} → translate_of s c p kind_fetch a n ≡ Ok q → Fetchable c a
     fetch_where e =
         let x = accepted s c p kind_fetch a n e refl in
         let r = x.row in
@@ -174,7 +171,7 @@ module _ (s c : List ℕ) (a n : ℕ) where
     -- ---- 0/3 in the older edition
 
     -- no access finds it, once the first tests have passed
-    pub older_reserved : (kind : ℕ) → edition c ≡ older → type_of a ≡ 0 → index_of a ≡ 3 → first_checks (buffers_valid s c p) kind a n ≡ Pass
-        → translate_of s c p kind a n ≡ Refused NoSegment
+    pub older_reserved : (kind : ℕ) → edition c ≡ older → type_of a ≡ 0 → index_of a ≡ 3 → first_checks (buffers_valid s c p) kind a n ≡ Ok tt
+        → translate_of s c p kind a n ≡ Err NoSegment
     unfolding translate_of in_segment
     older_reserved kind built type index pass = rw (pass, built, type, index, older_none (accounts s))

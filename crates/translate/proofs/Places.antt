@@ -13,15 +13,15 @@ use Rattle.frames.proofs.Free.{free_found_lem}
 use Rattle.translate.specs.Fits.{Fits}
 use Rattle.translate.specs.Translate.{translate_of}
 use Rattle.translate.specs.declared.place.Place.{Place}
-use Rattle.translate.specs.declared.place.Translation.{Translation}
-use Rattle.translate.specs.declared.place.Translation.TheVariants.{Allowed, Refused}
 use Rattle.translate.proofs.Accepted.{account_of, accepted, DataAccess, data_accepted}
 use Rattle.translate.proofs.Stores.{original_fits, DataAnswer, in_copy, in_original, taking, lacking, RegionAnswer, in_region, tagged, unclaimed, Answer, plain, about_data, about_region, answer}
+use Rattle.std.specs.Prelude.{Err, Ok}
+use Rattle.translate.specs.Place.{Translation}
 
 -- an answer that is a place fits
 abbrev AnswerFits : List ℕ → List ℕ → List ℕ → ℕ → Translation → Type 0
-AnswerFits s c p n (Allowed q) = Fits s c p n q
-AnswerFits s c p n (Refused r) = Unit {0}
+AnswerFits s c p n (Ok q) = Fits s c p n q
+AnswerFits s c p n (Err r) = Unit {0}
 
 module _ {s c p : List ℕ} (b : BuffersFacts s c p) where
   -- a frame of the table has its entry in the control block and its bytes in the pool
@@ -57,9 +57,9 @@ module _ {s c p : List ℕ} (b : BuffersFacts s c p) where
   region_fits n h tagged = tt
   region_fits n h unclaimed = tt
 
-module _ (s c p : List ℕ) (kind a n : ℕ) (q : Place) (e : translate_of s c p kind a n ≡ Allowed q) where
+module _ (s c p : List ℕ) (kind a n : ℕ) (q : Place) (e : translate_of s c p kind a n ≡ Ok q) where
   -- each answer fits
-  answer_fits : BuffersFacts s c p → offset_of a % page_size + n ≤ page_size → Answer s c p kind a n (Allowed q) → Fits s c p n q
+  answer_fits : BuffersFacts s c p → offset_of a % page_size + n ≤ page_size → Answer s c p kind a n (Ok q) → Fits s c p n q
   answer_fits b h (plain _ _ _ f) = f
   answer_fits b h (about_data type x) = data_fits b (data_accepted s c p kind a n e refl type).0 x
   answer_fits b h (about_region r m x) = region_fits b n h x

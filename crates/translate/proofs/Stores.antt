@@ -20,8 +20,6 @@ use Rattle.frames.specs.Table.{frame_entry_of, frame_of, free_frame}
 use Rattle.frames.specs.declared.claim.Claim.{Claim}
 use Rattle.frames.specs.declared.claim.Claim.TheVariants.{Copy, Anonymous}
 use Rattle.frames.specs.declared.claim.End.TheVariants.{Highest}
-use Rattle.frames.specs.declared.claim.Found.{Found}
-use Rattle.frames.specs.declared.claim.Found.TheVariants.{At, Nothing}
 use Rattle.segments.specs.Kinds.{is_store}
 use Rattle.segments.specs.declared.rules.Presence.{Presence}
 use Rattle.segments.specs.declared.rules.Presence.TheVariants.{Transaction, Shadow, Program, Context, Metadata, Data, Stack, Heap}
@@ -33,9 +31,9 @@ use Rattle.translate.specs.Translate.{program, concerned_valid, end_of, start_of
 use Rattle.translate.specs.declared.place.NewCopy.{NewCopy}
 use Rattle.translate.specs.declared.place.Place.{Place}
 use Rattle.translate.specs.declared.place.Place.TheVariants.{InSnapshot, InControl, Zeros, InPool, Take}
-use Rattle.translate.specs.declared.place.Translation.{Translation}
-use Rattle.translate.specs.declared.place.Translation.TheVariants.{Allowed, Refused}
 use Rattle.translate.proofs.Accepted.{request_of, account_of, last, named, RowPassed, Accepted, accepted, data_answer, data_accepted}
+use Rattle.std.specs.Prelude.{Err, None, Ok, Option, Some}
+use Rattle.translate.specs.Place.{Translation}
 
 -- the page of account data that an address names
 abbrev pub copy_of : ℕ → Claim
@@ -50,13 +48,13 @@ page_in r a = Anonymous r (page_of (offset_of a))
 -- a place in the frame of the account's page
 pub record InCopy (c : List ℕ) (a at : ℕ) : Type 0 where
   pub frame : Frame
-  pub held : frame_of c (copy_of a) ≡ At frame
+  pub held : frame_of c (copy_of a) ≡ Some frame
   pub place : at ≡ in_frame frame (offset_of a)
 
 -- a place in the original data, for a load
 pub record InOriginal (s c : List ℕ) (kind a at : ℕ) : Type 0 where
   pub load : is_store kind ≡ false
-  pub none : frame_of c (copy_of a) ≡ Nothing
+  pub none : frame_of c (copy_of a) ≡ None
   pub place : at ≡ (entry_of s (account_of a)).start + offset_of a
 
 -- a frame that a store takes for the account's page
@@ -65,37 +63,37 @@ pub record Taken (c : List ℕ) (kind a : ℕ) (t : NewCopy) : Type 0 where
   pub type : type_of a ≡ 3
   pub account : t.account ≡ account_of a
   pub page : t.page ≡ page_of (offset_of a)
-  pub none : frame_of c (Copy t.account t.page) ≡ Nothing
-  pub free : free_frame Highest c ≡ At t.frame
+  pub none : frame_of c (Copy t.account t.page) ≡ None
+  pub free : free_frame Highest c ≡ Some t.frame
   pub place : t.at ≡ in_frame t.frame (offset_of a)
 
 -- a store needs a frame for the account's page, and none is free
 pub record Lacking (c : List ℕ) (kind a : ℕ) : Type 0 where
   pub store : is_store kind ≡ true
   pub type : type_of a ≡ 3
-  pub none : frame_of c (copy_of a) ≡ Nothing
-  pub full : free_frame Highest c ≡ Nothing
+  pub none : frame_of c (copy_of a) ≡ None
+  pub full : free_frame Highest c ≡ None
 
 -- the four answers
 pub data DataAnswer (s c : List ℕ) (kind a : ℕ) : Translation → Type 0 where
-  in_copy : {at : ℕ} → InCopy c a at → DataAnswer s c kind a (Allowed (InPool at))
-  in_original : {at : ℕ} → InOriginal s c kind a at → DataAnswer s c kind a (Allowed (InSnapshot at))
-  taking : {t : NewCopy} → Taken c kind a t → DataAnswer s c kind a (Allowed (Take t))
-  lacking : Lacking c kind a → DataAnswer s c kind a (Refused NoFrame)
+  in_copy : {at : ℕ} → InCopy c a at → DataAnswer s c kind a (Ok (InPool at))
+  in_original : {at : ℕ} → InOriginal s c kind a at → DataAnswer s c kind a (Ok (InSnapshot at))
+  taking : {t : NewCopy} → Taken c kind a t → DataAnswer s c kind a (Ok (Take t))
+  lacking : Lacking c kind a → DataAnswer s c kind a (Err NoFrame)
 
 module _ (s c : List ℕ) (kind a : ℕ) (type : type_of a ≡ 3) where
   -- for a store to a page without a frame, by the free frame that is found
-  new_page : is_store kind ≡ true → frame_of c (copy_of a) ≡ Nothing → (x : Found) → free_frame Highest c ≡ x
+  new_page : is_store kind ≡ true → frame_of c (copy_of a) ≡ None → (x : Option Frame) → free_frame Highest c ≡ x
       → DataAnswer s c kind a (copy_place (account_of a) (offset_of a) x)
-  new_page store none (At f) e =
+  new_page store none (Some f) e =
       taking (record { store = store; type = type; account = refl; page = refl; none = none; free = e; place = refl })
-  new_page store none Nothing e = lacking (record { store = store; type = type; none = none; full = e })
+  new_page store none None e = lacking (record { store = store; type = type; none = none; full = e })
 
   -- by the frame of the page that is found
-  page_in_lem : (x : Found) → frame_of c (copy_of a) ≡ x
+  page_in_lem : (x : Option Frame) → frame_of c (copy_of a) ≡ x
       → DataAnswer s c kind a (data_place_in c kind (account_of a) (offset_of a) ((entry_of s (account_of a)).start + offset_of a) x)
-  page_in_lem (At f) e = in_copy (record { frame = f; held = e; place = refl })
-  page_in_lem Nothing e =
+  page_in_lem (Some f) e = in_copy (record { frame = f; held = e; place = refl })
+  page_in_lem None e =
       by_test (is_store kind) (λ k. rw k (new_page k e (free_frame Highest c) refl))
       (λ k. rw k (in_original (record { load = k; none = e; place = refl })))
 
@@ -109,25 +107,25 @@ module _ (s c : List ℕ) (kind a : ℕ) (type : type_of a ≡ 3) where
 -- a place in the frame of a region's page
 pub record InRegion (c : List ℕ) (r : Region) (kind a at : ℕ) : Type 0 where
   pub frame : Frame
-  pub held : frame_of c (page_in r a) ≡ At frame
+  pub held : frame_of c (page_in r a) ≡ Some frame
   pub tag : is_store kind ≡ true → depth c ≤ (frame_entry_of c frame.0).tag
   pub place : at ≡ in_frame frame (offset_of a)
 
 -- the three answers
 pub data RegionAnswer (c : List ℕ) (r : Region) (kind a : ℕ) : Translation → Type 0 where
-  in_region : {at : ℕ} → InRegion c r kind a at → RegionAnswer c r kind a (Allowed (InPool at))
-  tagged : RegionAnswer c r kind a (Refused NotPermitted)
-  unclaimed : RegionAnswer c r kind a (Refused Invalid)
+  in_region : {at : ℕ} → InRegion c r kind a at → RegionAnswer c r kind a (Ok (InPool at))
+  tagged : RegionAnswer c r kind a (Err NotPermitted)
+  unclaimed : RegionAnswer c r kind a (Err Invalid)
 
 module _ (c : List ℕ) (r : Region) (kind a : ℕ) where
   -- by the frame of the page that is found
-  region_in : (x : Found) → frame_of c (page_in r a) ≡ x → RegionAnswer c r kind a (region_place_in c kind (offset_of a) x)
-  region_in (At f) e =
+  region_in : (x : Option Frame) → frame_of c (page_in r a) ≡ x → RegionAnswer c r kind a (region_place_in c kind (offset_of a) x)
+  region_in (Some f) e =
       by_test (either (not (is_store kind)) (leb (depth c) (frame_entry_of c f.0).tag))
       (λ t.
       rw t (in_region (record { frame = f; held = e; tag = λ k. leb-true _ _ (rw k at t); place = refl })))
       (λ t. rw t tagged)
-  region_in Nothing e = unclaimed
+  region_in None e = unclaimed
 
   -- it is one of them
   region_answer : RegionAnswer c r kind a (region_place c r kind (offset_of a))
@@ -146,7 +144,7 @@ takes (Take t) = true
 
 -- it is a place that has room, in a row without frames, which is loaded from and is no account's data; or that of a page
 pub data Answer (s c p : List ℕ) (kind a n : ℕ) : Translation → Type 0 where
-  plain : {q : Place} → is_store kind ≡ false → type_of a ≢ 3 → takes q ≡ false → Fits s c p n q → Answer s c p kind a n (Allowed q)
+  plain : {q : Place} → is_store kind ≡ false → type_of a ≢ 3 → takes q ≡ false → Fits s c p n q → Answer s c p kind a n (Ok q)
   about_data : {t : Translation} → type_of a ≡ 3 → DataAnswer s c kind a t → Answer s c p kind a n t
   about_region : {t : Translation} (r : Region) → type_of a ≢ 3 → RegionAnswer c r kind a t → Answer s c p kind a n t
 
@@ -169,7 +167,7 @@ module _ {s c p : List ℕ} {kind a n : ℕ} {t : Translation} (x : Accepted s c
 
   -- a row where the table says "never" is loaded from, at a place that has room
   plain_at : (r : Presence) → store_of r ≡ Never → x.row.presence ≡ r → {q : Place} → takes q ≡ false → Fits s c p n q
-      → Answer s c p kind a n (Allowed q)
+      → Answer s c p kind a n (Ok q)
   plain_at r h e none fits =
       let v : x.row.store ≡ Never = plain_never (type_of a) (index_of a) (accounts s) x.row x.found r h e in
       plain (fails (is_store kind) (λ k. differ _ (rw v at x.passed.permitted) (permitted_store kind x.row.fetch Never _ _ k)))
@@ -217,7 +215,7 @@ pub data LoadPlace (s c : List ℕ) (kind a : ℕ) : Place → Type 0 where
 
 module _ {s c p : List ℕ} {kind a n : ℕ} where
   -- the answers for a store
-  stored : {q : Place} → is_store kind ≡ true → Answer s c p kind a n (Allowed q) → StorePlace c kind a q
+  stored : {q : Place} → is_store kind ≡ true → Answer s c p kind a n (Ok q) → StorePlace c kind a q
   stored store (plain load _ _ _) = absurd (differ _ store load)
   stored store (about_data h (in_copy x)) = into_copy h x
   stored store (about_data h (in_original x)) = absurd (differ _ store x.load)
@@ -225,7 +223,7 @@ module _ {s c p : List ℕ} {kind a n : ℕ} where
   stored store (about_region r h (in_region x)) = into_region r h x
 
   -- the answers for a load of account data
-  loaded : {q : Place} → is_store kind ≡ false → type_of a ≡ 3 → Answer s c p kind a n (Allowed q) → LoadPlace s c kind a q
+  loaded : {q : Place} → is_store kind ≡ false → type_of a ≡ 3 → Answer s c p kind a n (Ok q) → LoadPlace s c kind a q
   loaded load h (plain _ m _ _) = absurd (m h)
   loaded load h (about_data _ (in_copy x)) = from_copy x
   loaded load h (about_data _ (in_original x)) = from_original x
@@ -233,13 +231,13 @@ module _ {s c p : List ℕ} {kind a n : ℕ} where
   loaded load h (about_region r m x) = absurd (m h)
 
   -- the answer that takes a frame
-  taken_of : {t : NewCopy} → Answer s c p kind a n (Allowed (Take t)) → Taken c kind a t
+  taken_of : {t : NewCopy} → Answer s c p kind a n (Ok (Take t)) → Taken c kind a t
   taken_of {t = t} (about_region r _ x4) = elim x4 [ ]
   taken_of (plain _ _ h _) = absurd (differ true refl h)
   taken_of (about_data h (taking x)) = x
 
   -- the answer that lacks one
-  lacking_of : Answer s c p kind a n (Refused NoFrame) → Lacking c kind a
+  lacking_of : Answer s c p kind a n (Err NoFrame) → Lacking c kind a
   lacking_of (about_region r _ x4) = elim x4 [ ]
   lacking_of (about_data h (lacking x)) = x
 
@@ -251,22 +249,22 @@ module _ (s c p : List ℕ) (kind a n : ℕ) where
       rw x.place at (answer_at x (buffers_facts s c p x.buffers) (request_length kind n x.request).0 x.row.presence refl x.passed)
 
   -- a frame is taken for a store to account data
-  pub take_place : {t : NewCopy} → translate_of s c p kind a n ≡ Allowed (Take t) → Taken c kind a t
+  pub take_place : {t : NewCopy} → translate_of s c p kind a n ≡ Ok (Take t) → Taken c kind a t
   take_place e = taken_of (answer e refl)
 
   -- a store leads to a frame
-  pub store_place : {q : Place} → is_store kind ≡ true → translate_of s c p kind a n ≡ Allowed q → StorePlace c kind a q
+  pub store_place : {q : Place} → is_store kind ≡ true → translate_of s c p kind a n ≡ Ok q → StorePlace c kind a q
   store_place store e = stored store (answer e refl)
 
   -- a load of account data leads to the frame of the page, or else to the original
-  pub load_place : {q : Place} → is_store kind ≡ false → type_of a ≡ 3 → translate_of s c p kind a n ≡ Allowed q → LoadPlace s c kind a q
+  pub load_place : {q : Place} → is_store kind ≡ false → type_of a ≡ 3 → translate_of s c p kind a n ≡ Ok q → LoadPlace s c kind a q
   load_place load h e = loaded load h (answer e refl)
 
   -- 8 is given only where a frame is needed and none is free
-  pub no_frame : translate_of s c p kind a n ≡ Refused NoFrame → Lacking c kind a
+  pub no_frame : translate_of s c p kind a n ≡ Err NoFrame → Lacking c kind a
   no_frame e = lacking_of (answer e refl)
 
   -- and there it is given, once the tests have passed
-  pub lacks_frame : {t : Translation} → Lacking c kind a → translate_of s c p kind a n ≡ t → last t ≡ true → t ≡ Refused NoFrame
+  pub lacks_frame : {t : Translation} → Lacking c kind a → translate_of s c p kind a n ≡ t → last t ≡ true → t ≡ Err NoFrame
   unfolding data_place
   lacks_frame x e l = sym (data_accepted s c p kind a n e l x.type).1 ∙ rw (x.none, x.store, x.full)

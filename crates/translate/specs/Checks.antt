@@ -1,8 +1,7 @@
 -- Document 01, "Order for an access", with document 02, "One": the tests in their order. Assumes nothing.
 use Rattle.std.specs.Prelude.{ℕ, ◌+◌, ◌-◌, Bool, nat_lt, nat_le}
 use Rattle.layout.specs.Address.{addresses}
-use Rattle.refusal.specs.Checks.{need, ◌then◌}
-use Rattle.refusal.specs.declared.Check.{Check}
+use Rattle.refusal.specs.Checks.{need, ◌then◌, Check}
 use Rattle.refusal.specs.declared.Refusal.TheVariants.{Invalid, BadRequest, BadAddress, Absent, Misaligned, Crossing, NotPermitted}
 use Rattle.segments.specs.Kinds.{request_valid, aligned, within}
 use Rattle.translate.specs.declared.request.Request.{Request}

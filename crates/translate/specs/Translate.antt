@@ -1,11 +1,10 @@
 -- Document 01, "Addresses and segments", "Order for an access" and "Copies", with document 02, "Six": translation. Assumes nothing.
-use Rattle.std.specs.Prelude.{ℕ, ◌+◌, ◌-◌, ◌*◌, ◌/◌, ◌%◌, ◌<◌, ◌≡◌, Bool, true, false, not, List, nat_lt, nat_le, nat_eq}
+use Rattle.std.specs.Prelude.{ℕ, ◌+◌, ◌-◌, ◌*◌, ◌/◌, ◌%◌, ◌<◌, ◌≡◌, Bool, true, false, not, List, nat_lt, nat_le, nat_eq, Err, None, Ok, Option, Some}
 use Rattle.layout.specs.Page.{page_size}
 use Rattle.layout.specs.Control.{older, shadow_at, table_at}
 use Rattle.layout.specs.Snapshot.{context_size, metadata_size}
 use Rattle.layout.specs.Address.{offsets}
 use Rattle.choice.specs.Choice.{pick, both, either}
-use Rattle.refusal.specs.declared.Check.{Check}
 use Rattle.refusal.specs.declared.Refusal.TheVariants.{Invalid, NoSegment, NotPermitted, NoFrame}
 use Rattle.address.specs.Address.{type_of, index_of, offset_of}
 use Rattle.snapshot.specs.Header.{header_of, accounts, contexts, transaction, snapshot_valid}
@@ -19,18 +18,15 @@ use Rattle.pages.specs.Pages.{in_frame, page_of}
 use Rattle.frames.specs.Table.{frame_entry_of, frame_of, free_frame}
 use Rattle.frames.specs.declared.claim.Claim.TheVariants.{Copy, Anonymous}
 use Rattle.frames.specs.declared.claim.End.TheVariants.{Highest}
-use Rattle.frames.specs.declared.claim.Found.{Found}
-use Rattle.frames.specs.declared.claim.Found.TheVariants.{At, Nothing}
 use Rattle.segments.specs.Kinds.{is_store, request_valid}
 use Rattle.segments.specs.Rules.{segment_of, permitted}
 use Rattle.segments.specs.declared.rules.Presence.{Presence}
 use Rattle.segments.specs.declared.rules.Presence.TheVariants.{Transaction, Shadow, Program, Context, Metadata, Data, Stack, Heap}
 use Rattle.segments.specs.declared.rules.FetchRule.{FetchRule}
 use Rattle.segments.specs.declared.rules.StoreRule.{StoreRule}
-use Rattle.segments.specs.declared.rules.Segment.{Segment}
-use Rattle.segments.specs.declared.rules.Segment.TheVariants.{Is, Missing}
+use Rattle.segments.specs.declared.rules.Row.{Row}
 use Rattle.translate.specs.Checks.{first_checks, row_checks}
-use Rattle.translate.specs.Place.{refusing}
+use Rattle.translate.specs.Place.{refusing, Translation}
 use Rattle.translate.specs.declared.request.Request.{Request}
 use Rattle.translate.specs.declared.place.Place.{Place}
 use Rattle.translate.specs.declared.place.Place.TheVariants.{InSnapshot, InControl, Zeros, InPool, Take}
@@ -39,8 +35,8 @@ use Rattle.translate.specs.declared.sought.Source.{Source}
 use Rattle.translate.specs.declared.sought.Source.TheVariants as source
 use Rattle.translate.specs.declared.sought.Buffer.{Buffer}
 use Rattle.translate.specs.declared.sought.Buffer.TheVariants as buffer
-use Rattle.translate.specs.declared.place.Translation.{Translation}
-use Rattle.translate.specs.declared.place.Translation.TheVariants.{Allowed, Refused}
+use Rattle.refusal.specs.Checks.{Check}
+use Rattle.pages.specs.declared.Frame.{Frame}
 
 -- ---- what a row asks
 
@@ -164,25 +160,25 @@ sought_of s c p fetch store q =
 -- ---- the place, once every byte is present
 
 -- "An accepted store to an account page without a frame takes" a free frame; "last 8"
-abbrev pub copy_place : Account → ℕ → Found → Translation
-copy_place a offset (At f) = Allowed (Take (record { at = in_frame f offset; frame = f; account = a; page = page_of offset }))
-copy_place a offset Nothing = Refused NoFrame
+abbrev pub copy_place : Account → ℕ → Option Frame → Translation
+copy_place a offset (Some f) = Ok (Take (record { at = in_frame f offset; frame = f; account = a; page = page_of offset }))
+copy_place a offset None = Err NoFrame
 
 -- "A page with a frame is stored to in that frame. Later loads in type 3 and views read the frame"; without one the original is read, and
 -- document 02, "Seven": "Account copies shall take the highest free frame"
-abbrev pub data_place_in : List ℕ → ℕ → Account → ℕ → ℕ → Found → Translation
-data_place_in c kind a offset at (At f) = Allowed (InPool (in_frame f offset))
-data_place_in c kind a offset at Nothing = pick (is_store kind) (copy_place a offset (free_frame Highest c)) (Allowed (InSnapshot at))
+abbrev pub data_place_in : List ℕ → ℕ → Account → ℕ → ℕ → Option Frame → Translation
+data_place_in c kind a offset at (Some f) = Ok (InPool (in_frame f offset))
+data_place_in c kind a offset at None = pick (is_store kind) (copy_place a offset (free_frame Highest c)) (Ok (InSnapshot at))
 
 -- the same, with the frame that the table names
 unfoldable pub data_place : List ℕ → ℕ → Account → ℕ → ℕ → Translation
 data_place c kind a offset at = data_place_in c kind a offset at (frame_of c (Copy a (page_of offset)))
 
 -- "for stack and heap 1 if no frame claims the page, 7 by tag for a store"; "tag at or above the depth"
-abbrev pub region_place_in : List ℕ → ℕ → ℕ → Found → Translation
-region_place_in c kind offset (At f) =
-    pick (either (not (is_store kind)) (nat_le (depth c) (frame_entry_of c f.0).tag)) (Allowed (InPool (in_frame f offset))) (Refused NotPermitted)
-region_place_in c kind offset Nothing = Refused Invalid
+abbrev pub region_place_in : List ℕ → ℕ → ℕ → Option Frame → Translation
+region_place_in c kind offset (Some f) =
+    pick (either (not (is_store kind)) (nat_le (depth c) (frame_entry_of c f.0).tag)) (Ok (InPool (in_frame f offset))) (Err NotPermitted)
+region_place_in c kind offset None = Err Invalid
 
 -- the same, with the frame that the table names
 unfoldable pub region_place : List ℕ → Region → ℕ → ℕ → Translation
@@ -201,7 +197,7 @@ buffer_place buffer.Zeros at = Zeros
 
 -- where it stands, by its source
 unfoldable pub place_in : List ℕ → Request → Source → ℕ → Translation
-place_in c q (source.Plain b) at = Allowed (buffer_place b at)
+place_in c q (source.Plain b) at = Ok (buffer_place b at)
 place_in c q source.Copy at = data_place c q.kind (indexed q) q.offset at
 place_in c q (source.Region r) at = region_place c r q.kind q.offset
 
@@ -224,9 +220,9 @@ in_row s c p fetch store q = refusing (row_check s c p fetch store q) (place_of 
 -- ---- translation
 
 -- "4", and then the row's
-unfoldable pub in_segment : List ℕ → List ℕ → Segment → Request → Translation
-in_segment s c Missing q = Refused NoSegment
-in_segment s c (Is r) q = in_row s c r.presence r.fetch r.store q
+unfoldable pub in_segment : List ℕ → List ℕ → Option Row → Request → Translation
+in_segment s c None q = Err NoSegment
+in_segment s c (Some r) q = in_row s c r.presence r.fetch r.store q
 
 -- "Translation changes nothing and answers one of: a place in ground, a place in ledger, zeros, a place in pool, a frame that
 -- would be taken for a copy, or a refusal."

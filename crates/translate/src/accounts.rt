@@ -18,20 +18,17 @@ use snapshot::header::Header;
 fn owned_by(e: AccountEntry, program: Account) -> bool
     ensures { result ≡ owned_by e program }
 {
-    if e.writable() {
-        let owner = e.owner;
-        return owner.0 == program.0;
-    }
-    false
+    e.writable() && e.owner == program
 }
 
 // The original data of the current program's account.
+#[tactic(auto, using(crate::proofs::Read::start_fits))]
 pub fn of_program(s: &[u8], h: Header, program: Account, permitted: bool, offset: usize) -> Sought
     requires { (h.total ≡ length s.now) × (entry_at program + entry_size ≤ length s.now) × (offset < offsets) }
     ensures { result ≡ of_program h (entry_of s.now program) permitted offset }
 {
     let e = whole_account_entry(s, program);
-    if e.valid(h.data_at, s.len()) {} else {
+    if !e.valid(h.data_at, s.len()) {
         return no_entry();
     }
     Sought {
@@ -48,9 +45,10 @@ fn metadata_buffer(e: AccountEntry) -> Buffer
     ensures { result ≡ metadata_buffer e }
 {
     if e.exists() {
-        return Buffer::Snapshot;
+        Buffer::Snapshot
+    } else {
+        Buffer::Zeros
     }
-    Buffer::Zeros
 }
 
 // An account's metadata.
@@ -59,7 +57,7 @@ pub fn of_metadata(s: &[u8], h: Header, a: Account, permitted: bool, offset: usi
     ensures { result ≡ of_metadata h (entry_of s.now a) a permitted offset }
 {
     let e = whole_account_entry(s, a);
-    if e.valid(h.data_at, s.len()) {} else {
+    if !e.valid(h.data_at, s.len()) {
         return no_entry();
     }
     Sought {
@@ -75,13 +73,11 @@ pub fn of_metadata(s: &[u8], h: Header, a: Account, permitted: bool, offset: usi
 fn runs(edition: usize, a: Account, program: Account) -> bool
     ensures { result ≡ runs edition a program }
 {
-    if edition == OLDER {
-        return a.0 == program.0;
-    }
-    false
+    edition == OLDER && a == program
 }
 
 // An account's data, as the snapshot has it; the rules ask whether the account runs and for its owner.
+#[tactic(auto, using(crate::proofs::Read::start_fits))]
 pub fn of_data(
     s: &[u8],
     h: Header,
@@ -96,7 +92,7 @@ pub fn of_data(
     ensures { result ≡ of_data h (entry_of s.now a) a program edition fetch store q }
 {
     let e = whole_account_entry(s, a);
-    if e.valid(h.data_at, s.len()) {} else {
+    if !e.valid(h.data_at, s.len()) {
         return no_entry();
     }
     Sought {

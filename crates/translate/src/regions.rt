@@ -19,9 +19,10 @@ fn region_end(r: Region, pages: usize, offset: usize) -> usize
     match r {
         Region::Stack => {
             if SEGMENT - PAGE * pages <= offset {
-                return SEGMENT;
+                SEGMENT
+            } else {
+                0
             }
-            0
         }
         Region::Heap => PAGE * pages,
     }
@@ -35,7 +36,7 @@ pub fn of_region(i: Invocation, r: Region, permitted: bool, offset: usize) -> So
     Sought {
         entry: true,
         permitted,
-        end: region_end(r, i.pages(r) as usize, offset),
+        end: region_end(r, usize::from(i.pages(r)), offset),
         source: Source::Region(r),
         at: 0,
     }

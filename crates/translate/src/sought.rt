@@ -1,5 +1,6 @@
 // What a row of the table asks of the buffers, column by column.
-ghost use Rattle.std.specs.Prelude.{◌≡◌};
+ghost use Rattle.std.specs.Prelude.{◌≡◌, false};
+ghost use Rattle.segments.specs.Rules.{permitted};
 ghost use Rattle.translate.specs.Translate.{Ready, Named, no_entry, sought_of};
 
 use super::accounts::{of_data, of_metadata, of_program};
@@ -13,7 +14,7 @@ use snapshot::accounts::Account;
 use snapshot::header::whole_header;
 
 // A buffer that bytes stand in whatever the frames hold, or none: they read as zeros.
-#[derive(Clone, Copy)]
+#[derive(Clone, Copy, PartialEq, Eq, Debug)]
 pub enum Buffer {
     Snapshot,
     Control,
@@ -21,7 +22,7 @@ pub enum Buffer {
 }
 
 // Where the bytes of a row stand: in one buffer, in the snapshot unless their page has a copy, or in a region's frames.
-#[derive(Clone, Copy)]
+#[derive(Clone, Copy, PartialEq, Eq, Debug)]
 pub enum Source {
     Plain(Buffer),
     Copy,
@@ -31,7 +32,7 @@ pub enum Source {
 // What is sought: whether the entry of the account concerned is valid, whether the row permits the kind of access, the offset at which the
 // bytes that are present from the access's own on end, where they stand, and where the first does in its buffer, frames aside. Plain
 // numbers: a place made here and handed on would go through memory.
-#[derive(Clone, Copy)]
+#[derive(Clone, Copy, PartialEq, Eq, Debug)]
 pub struct Sought {
     pub entry: bool,
     pub permitted: bool,
@@ -41,6 +42,7 @@ pub struct Sought {
 }
 
 // What is sought where the entry is not valid: nothing more is asked.
+#[tactic(auto, unfolding(crate::specs::Translate::no_entry))]
 pub fn no_entry() -> Sought
     ensures { result ≡ no_entry }
 {
@@ -69,40 +71,17 @@ pub fn sought_of(
     let h = whole_header(s);
     let i = invocation_at(c, invocation_count(c));
     let a = Account(q.index);
+    let plain = ||
+        ensures { result ≡ permitted q.kind fetch store false false }
+    { permitted(q.kind, fetch, store, false, false) };
     match p {
         Presence::Data => of_data(s, h, a, i.program, edition_of(c), fetch, store, q),
-        Presence::Program => of_program(
-            s,
-            h,
-            i.program,
-            permitted(q.kind, fetch, store, false, false),
-            q.offset,
-        ),
-        Presence::Transaction => of_transaction(
-            h,
-            permitted(q.kind, fetch, store, false, false),
-            q.offset,
-        ),
-        Presence::Shadow => of_shadow(permitted(q.kind, fetch, store, false, false), q.offset),
-        Presence::Context => of_context(h, permitted(q.kind, fetch, store, false, false), q.offset),
-        Presence::Metadata => of_metadata(
-            s,
-            h,
-            a,
-            permitted(q.kind, fetch, store, false, false),
-            q.offset,
-        ),
-        Presence::Stack => of_region(
-            i,
-            Region::Stack,
-            permitted(q.kind, fetch, store, false, false),
-            q.offset,
-        ),
-        Presence::Heap => of_region(
-            i,
-            Region::Heap,
-            permitted(q.kind, fetch, store, false, false),
-            q.offset,
-        ),
+        Presence::Program => of_program(s, h, i.program, plain(), q.offset),
+        Presence::Transaction => of_transaction(h, plain(), q.offset),
+        Presence::Shadow => of_shadow(plain(), q.offset),
+        Presence::Context => of_context(h, plain(), q.offset),
+        Presence::Metadata => of_metadata(s, h, a, plain(), q.offset),
+        Presence::Stack => of_region(i, Region::Stack, plain(), q.offset),
+        Presence::Heap => of_region(i, Region::Heap, plain(), q.offset),
     }
 }

@@ -4,18 +4,18 @@ ghost use Rattle.translate.specs.Translate.{Ready, Named, in_row, translate_of};
 
 use super::answer::answer;
 use super::checks::first_checks;
-use super::place::Translation;
+use super::place::Place;
 use super::request::Request;
 use super::sought::sought_of;
 use address::Address;
 use control::buffers::control_ready;
 use control::header::edition_of;
-use refusal::{Check, Refusal};
-use segments::rules::{Row, Segment, segment_of};
+use refusal::Refusal;
+use segments::rules::{Row, segment_of};
 use snapshot::header::{valid, whole_header};
 
 // An access in the segment of a row: what the row asks is sought, and answered.
-fn in_row(s: &[u8], c: &[u8], row: Row, q: Request) -> Translation
+fn in_row(s: &[u8], c: &[u8], row: Row, q: Request) -> Result<Place, Refusal>
     requires ready { Ready s.now c.now q }
     requires named { Named s.now row.presence q }
     ensures { result ≡ in_row s.now c.now row.presence row.fetch row.store q }
@@ -28,21 +28,25 @@ fn in_row(s: &[u8], c: &[u8], row: Row, q: Request) -> Translation
 }
 
 // From an address to a place, or to the first refusal in order. `kind` is that of the access and n its length.
-pub fn translate(s: &[u8], c: &[u8], pool: &[u8], kind: u8, a: Address, n: usize) -> Translation
+pub fn translate(
+    s: &[u8],
+    c: &[u8],
+    pool: &[u8],
+    kind: u8,
+    a: Address,
+    n: usize,
+) -> Result<Place, Refusal>
     ensures { result ≡ translate_of s.now c.now pool.now kind a.0 n }
 {
-    if valid(s) {} else {
-        return Translation::Refused(Refusal::Invalid);
+    if !valid(s) {
+        return Err(Refusal::Invalid);
     }
     let h = whole_header(s);
-    let check = first_checks(control_ready(c, pool, h.accounts), kind, a, n);
-    if let Check::Stop(r) = check {
-        return Translation::Refused(r);
-    }
+    first_checks(control_ready(c, pool, h.accounts), kind, a, n)?;
     let index = a.index();
     let found = segment_of(edition_of(c), a.segment_type(), index, h.accounts);
-    let Segment::Is(row) = found else {
-        return Translation::Refused(Refusal::NoSegment);
+    let Some(row) = found else {
+        return Err(Refusal::NoSegment);
     };
     in_row(
         s,

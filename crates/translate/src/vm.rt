@@ -44,9 +44,10 @@ fn context_end(contexts: usize, offset: usize) -> usize
     ensures { result ≡ context_end contexts offset }
 {
     if offset / PAGE < contexts {
-        return PAGE * (offset / PAGE) + CONTEXT;
+        PAGE * (offset / PAGE) + CONTEXT
+    } else {
+        0
     }
-    0
 }
 
 // The block contexts, one to a page.

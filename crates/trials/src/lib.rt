@@ -1,3 +1,3 @@
-// Document 01's "Trials at the edges" marked P, as one table with its proof. It holds no code.
+// The trials of the rules' "Trials at the edges" that are marked P, as one table with its proof. It holds no code.
 
 #![tactic(auto)]

@@ -9,9 +9,9 @@ use Rattle.snapshot.specs.declared.accounts.AccountEntry.{AccountEntry}
 use Rattle.pages.specs.Pages.{live_of}
 use Rattle.pages.specs.declared.Page.{Page}
 use Rattle.view.specs.View.{view_of_entry}
-use Rattle.view.specs.declared.View.TheVariants.{Refused}
+use Rattle.std.specs.Prelude.{Err}
 
 -- no live byte
-pub no_live : (c : List ℕ) (a : Account) (q : Page) (e : AccountEntry) → live_of (data_length e) q < 1 → view_of_entry c a q e ≡ Refused (Absent 0)
+pub no_live : (c : List ℕ) (a : Account) (q : Page) (e : AccountEntry) → live_of (data_length e) q < 1 → view_of_entry c a q e ≡ Err (Absent 0)
 unfolding view_of_entry need
 no_live c a q e l = rw (lt-leb _ _ l)

@@ -1,8 +1,6 @@
 -- What the tests of a view show, and that a view lies inside the slice that it is a part of. Assumes nothing.
 use Rattle.std.proofs.Common.{ℕ, ◌+◌, ◌*◌, ◌-◌, ◌≤◌, ◌<◌, ◌≡◌, refl, true, List, arith, length, leb-true}
 use Rattle.layout.specs.Page.{pool_length, page_size}
-use Rattle.refusal.specs.declared.Check.{Check}
-use Rattle.refusal.specs.declared.Check.TheVariants.{Pass, Stop}
 use Rattle.refusal.proofs.Checks.{need_then, then_pass, need_pass}
 use Rattle.snapshot.specs.Header.{snapshot_valid}
 use Rattle.snapshot.specs.Accounts.{entry_of, data_length, entry_valid}
@@ -16,12 +14,14 @@ use Rattle.pages.specs.declared.Page.{Page}
 use Rattle.pages.proofs.PageBytes.{live_most, live_inside}
 use Rattle.frames.specs.Table.{frame_of}
 use Rattle.frames.specs.declared.claim.Claim.TheVariants.{Copy}
-use Rattle.frames.specs.declared.claim.Found.{Found}
-use Rattle.frames.specs.declared.claim.Found.TheVariants.{At, Nothing}
 use Rattle.frames.proofs.Claims.{frame_found}
 use Rattle.view.specs.View.{view_check, view_in, or_refused, view_of}
+use Rattle.refusal.specs.declared.Refusal.{Refusal}
 use Rattle.view.specs.declared.View.{View}
-use Rattle.view.specs.declared.View.TheVariants.{InSnapshot, InPool, Refused}
+use Rattle.view.specs.declared.View.TheVariants.{InSnapshot, InPool}
+use Rattle.std.specs.Prelude.{Result, Err, None, Ok, Option, Some}
+use Rattle.refusal.specs.Checks.{Check}
+use Rattle.pages.specs.declared.Frame.{Frame}
 
 -- what a view that is not refused has shown
 record ViewFacts (s c p : List ℕ) (a : Account) (q : Page) : Type 0 where
@@ -31,14 +31,14 @@ record ViewFacts (s c p : List ℕ) (a : Account) (q : Page) : Type 0 where
   some_live : 1 ≤ live s a q
 
 -- a view's start and length lie in its slice
-abbrev pub Inside : List ℕ → List ℕ → View → Type 0
-Inside s p (InSnapshot at n) = at + n ≤ length s
-Inside s p (InPool at n) = at + n ≤ length p
-Inside s p (Refused r) = Unit {0}
+abbrev pub Inside : List ℕ → List ℕ → Result View Refusal → Type 0
+Inside s p (Ok (InSnapshot at n)) = at + n ≤ length s
+Inside s p (Ok (InPool at n)) = at + n ≤ length p
+Inside s p (Err r) = Unit {0}
 
 module _ (s c p : List ℕ) (a : Account) (q : Page) where
   -- a check that passes
-  view_facts : view_check s c p a q ≡ Pass → ViewFacts s c p a q
+  view_facts : view_check s c p a q ≡ Ok tt → ViewFacts s c p a q
   unfolding view_check
   view_facts e =
       let t₁ = need_then _ _ _ e in
@@ -58,16 +58,16 @@ module _ (s c p : List ℕ) (a : Account) (q : Page) where
       omega (arith, f.some_live, data_inside s a f.snapshot f.entry (page_size * q.0 + (live s a q - 1)) k)
 
   -- where the page is in a frame, or in none, the view lies inside
-  found_inside : (x : Found) → frame_of c (Copy a q) ≡ x → ViewFacts s c p a q → Inside s p (view_in (entry_of s a) q x)
-  found_inside (At f) e h =
+  found_inside : (x : Option Frame) → frame_of c (Copy a q) ≡ x → ViewFacts s c p a q → Inside s p (Ok (view_in (entry_of s a) q x))
+  found_inside (Some f) e h =
       let l : f.0 < frames c = (frame_found c (Copy a q) f e).below in
       omega (arith, h.pool, live_most (data_length (entry_of s a)) q)
-  found_inside Nothing e h = live_in_snapshot h
+  found_inside None e h = live_in_snapshot h
 
   -- a refusal is no view
-  checked_inside : (k : Check) (v : View) → (k ≡ Pass → Inside s p v) → Inside s p (or_refused k v)
-  checked_inside Pass v h = h refl
-  checked_inside (Stop r) v h = tt
+  checked_inside : (k : Check) (v : View) → (k ≡ Ok tt → Inside s p (Ok v)) → Inside s p (or_refused k v)
+  checked_inside (Ok tt) v h = h refl
+  checked_inside (Err r) v h = tt
 
   -- every view lies inside
   pub view_inside : Inside s p (view_of s c p a q)

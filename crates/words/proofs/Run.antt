@@ -19,7 +19,7 @@ get_or-bytes_at (suc n) s at zero h = rw add-zero
 get_or-bytes_at (suc n) s at (suc k) h = rw (add-suc, ← suc-add) (get_or-bytes_at n s (suc at) k (omega arith))
 
 -- a list is a run where it is as long and has its bytes
-run_is : (n : ℕ) (s : List ℕ) (at : ℕ) (t : List ℕ) → length t ≡ n → ((k : ℕ) → k < n → get_or s (at + k) 0 ≡ get_or t k 0) → bytes_at n s at ≡ t
+pub run_is : (n : ℕ) (s : List ℕ) (at : ℕ) (t : List ℕ) → length t ≡ n → ((k : ℕ) → k < n → get_or s (at + k) 0 ≡ get_or t k 0) → bytes_at n s at ≡ t
 run_is n s at t l h =
     ext_get_or 0 (bytes_at n s at) t (length-bytes_at n s at ∙ sym l)
     (λ k b. let m : k < n = omega (arith, length-bytes_at n s at) in get_or-bytes_at n s at k m ∙ h k m)

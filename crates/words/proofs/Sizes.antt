@@ -17,7 +17,3 @@ by_size n e f1 f2 f4 f8 =
 -- a size is 1 to 8
 pub size_short : (n : ℕ) → is_size n ≡ true → (1 ≤ n) × (n ≤ 8)
 size_short n e = by_size n e (λ f. omega arith) (λ f. omega arith) (λ f. omega arith) (λ f. omega arith)
-
--- the size that is none of the others
-pub size_one : (n : ℕ) → is_size n ≡ true → (n ≡ 8 → ⊥) → (n ≡ 4 → ⊥) → (n ≡ 2 → ⊥) → n ≡ 1
-size_one n e no8 no4 no2 = by_size n e (λ f. f) (λ f. absurd (no2 f)) (λ f. absurd (no4 f)) (λ f. absurd (no8 f))

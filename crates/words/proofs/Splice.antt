@@ -1,5 +1,5 @@
 -- The laws of `splice`, bytes put into a list at a place. Assumes nothing.
-use Rattle.std.proofs.Common.{◌≡◌, refl, sym, ap, ◌∙◌, List, [], ◌∷◌, ◌++◌, ℕ, zero, suc, ◌+◌, ◌≤◌, ◌<◌, add-zero, add-suc, suc-add, arith, add-one, get_or, set, length, take, drop, length-set, drop_of_length-le, get_or-set_same, get_or-set_other, get_or-take, length-take-le, drop-cons, set-set}
+use Rattle.std.proofs.Common.{◌≡◌, refl, sym, ap, ◌∙◌, List, [], ◌∷◌, ◌++◌, ℕ, zero, suc, ◌+◌, ◌≤◌, ◌<◌, add-zero, add-suc, suc-add, arith, get_or, set, length, length-set, get_or-set_same, get_or-set_other, set-set}
 use Rattle.std.proofs.Math.Seq.{set_comm}
 use Rattle.words.specs.Words.{splice}
 
@@ -78,30 +78,3 @@ splice_swap s at [] at' ys h = refl
 splice_swap s at (x ∷ xs) at' ys h =
     splice_swap (set s at x) (suc at) xs at' ys (omega arith)
     ∙ ap (λ (l : List ℕ). splice l (suc at) xs) (sym (splice-set s at' ys at x (omega arith)))
-
--- a loop that stores a list byte by byte, before its first turn: what is left of the list, put in from here on, gives what is promised
-pub splice_start : (s : List ℕ) (at : ℕ) (bs : List ℕ) → splice s (at + 0) (drop 0 bs) ≡ splice s at bs
-splice_start s at bs = rw add-zero
-
--- a turn of it
-pub splice_turn : (s : List ℕ) (at : ℕ) (bs : List ℕ) (k v : ℕ) → k < length bs → v ≡ get_or bs k 0
-    → splice (set s (at + k) v) (at + (k + 1)) (drop (k + 1) bs) ≡ splice s (at + k) (drop k bs)
-unfolding splice
-splice_turn s at bs k v l e =
-    let i : at + (k + 1) ≡ suc (at + k) = omega arith in
-    rw (drop-cons bs k 0 l, e, i, add-one k)
-
--- its end
-pub splice_stop : (s : List ℕ) (at : ℕ) (bs : List ℕ) (k : ℕ) → length bs ≤ k → splice s (at + k) (drop k bs) ≡ s
-unfolding splice
-splice_stop s at bs k l = rw (drop_of_length-le bs l)
-
--- a turn where the list is the first n bytes of another
-pub splice_turn_take : (s : List ℕ) (at : ℕ) (bs : List ℕ) (n k : ℕ) → n ≤ length bs → k < n
-    → splice (set s (at + k) (get_or bs k 0)) (at + (k + 1)) (drop (k + 1) (take n bs)) ≡ splice s (at + k) (drop k (take n bs))
-splice_turn_take s at bs n k h l =
-    splice_turn s at (take n bs) k (get_or bs k 0) (omega (arith, length-take-le n bs h)) (sym (get_or-take n bs k 0 l))
-
--- the end where the list is the first n bytes of another
-pub splice_stop_take : (s : List ℕ) (at : ℕ) (bs : List ℕ) (n k : ℕ) → n ≤ length bs → n ≤ k → splice s (at + k) (drop k (take n bs)) ≡ s
-splice_stop_take s at bs n k h l = splice_stop s at (take n bs) k (omega (arith, length-take-le n bs h))

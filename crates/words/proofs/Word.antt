@@ -57,6 +57,11 @@ word_append zero n s at = rw (zero-add n, pow-zero, add-zero at) (omega arith)
 word_append (suc m) n s at =
     rw (suc-add, pow-succ', add-suc, ← suc-add, mul_assoc) (omega (arith, word_append m n s (suc at)))
 
+-- a word of one byte is the byte
+pub word_one : (s : List ℕ) (at : ℕ) → word_at 1 s at ≡ get_or s at 0
+unfolding word_at
+word_one s at = omega arith
+
 -- so many bytes as asked
 pub length-word_bytes : (n v : ℕ) → length (word_bytes n v) ≡ n
 unfolding word_bytes

@@ -1,9 +1,9 @@
--- Document 01: "All stored numbers are unsigned and little-endian (house rule)." Bytes are a List ℕ, and every definition is total: a
--- byte past the end reads as 0, and a byte written past the end is dropped. Assumes nothing.
+-- Numbers and runs of bytes: "All stored numbers are unsigned and little-endian" (Rules: Where the rules come from). Bytes are a List ℕ,
+-- and every definition is total: a byte past the end reads as 0, and a byte written past the end is dropped. Assumes nothing.
 use Rattle.std.specs.Prelude.{ℕ, zero, suc, ◌+◌, ◌*◌, ◌/◌, ◌%◌, Bool, List, [], ◌∷◌, nat_eq, get_or, set}
 use Rattle.choice.specs.Choice.{either}
 
--- "Loads, stores and fetches have size 1, 2, 4 or 8"
+-- "Loads, stores and fetches have size 1, 2, 4 or 8" (Rules: Order for an access)
 abbrev pub is_size : ℕ → Bool
 is_size n = either (nat_eq n 1) (either (nat_eq n 2) (either (nat_eq n 4) (nat_eq n 8)))
 
@@ -17,7 +17,7 @@ unfoldable pub word_bytes : ℕ → ℕ → List ℕ
 word_bytes zero v = []
 word_bytes (suc n) v = (v % 256) ∷ word_bytes n (v / 256)
 
--- s with the bytes put in from `at` on: "every byte not named keeps its value"
+-- s with the bytes put in from `at` on: "every byte not named keeps its value" (Rules: Numbers given back)
 unfoldable pub splice : List ℕ → ℕ → List ℕ → List ℕ
 splice s at [] = s
 splice s at (b ∷ bs) = splice (set s at b) (suc at) bs

@@ -1,81 +1,67 @@
 // Numbers of 1 to 8 bytes, the lowest byte first.
 ghost use Rattle.std.specs.Prelude.{◌≡◌, true, ◌+◌, ◌≤◌, ◌<◌, length};
-ghost use Rattle.words.specs.Words.{is_size, word_at, word_bytes, splice};
+ghost use Rattle.words.specs.Words.{is_size, word_at, word_bytes, splice, bytes_at};
 
 use crate::runs;
 
-// A byte as a wider number.
-fn wide(x: u8) -> u64
-    ensures { (result ≡ x) × (result < 256) }
+// The N bytes at `at`. An array that is made of an exact range is one load.
+#[tactic(auto, using(crate::proofs::Library::part_run))]
+fn part<const N: usize>(s: &[u8], at: usize) -> [u8; N]
+    requires { at + N ≤ length s.now }
+    ensures { result ≡ bytes_at N s.now at }
 {
-    x as u64
+    s[at..at + N].try_into().unwrap()
 }
 
 // The u16 at `at`.
+#[tactic(auto, using(crate::proofs::Library::word_16))]
 pub fn u16_at(s: &[u8], at: usize) -> u16
     requires { at + 2 ≤ length s.now }
     ensures { result ≡ word_at 2 s.now at }
 {
-    (wide(s[at]) + 256 * wide(s[at + 1])) as u16
+    u16::from_le_bytes(part(s, at))
 }
 
 // The u32 at `at`, as an index.
+#[tactic(auto, using(crate::proofs::Library::word_32))]
 pub fn u32_at(s: &[u8], at: usize) -> usize
     requires { at + 4 ≤ length s.now }
     ensures { (result ≡ word_at 4 s.now at) × (result < 4294967296) }
 {
-    (u16_at(s, at) as usize) + 65536 * (u16_at(s, at + 2) as usize)
+    u32::from_le_bytes(part(s, at)) as usize
 }
 
 // The u64 at `at`.
+#[tactic(auto, using(crate::proofs::Library::word_64))]
 pub fn u64_at(s: &[u8], at: usize) -> u64
     requires { at + 8 ≤ length s.now }
     ensures { result ≡ word_at 8 s.now at }
 {
-    (u32_at(s, at) as u64) + 4294967296 * (u32_at(s, at + 4) as u64)
+    u64::from_le_bytes(part(s, at))
 }
 
 // The number of n bytes at `at`, n being 1, 2, 4 or 8. Each size is one load.
+#[tactic(auto, using(crate::proofs::Word::word_one))]
 pub fn read(s: &[u8], at: usize, n: usize) -> u64
     requires { (is_size n ≡ true) × (at + n ≤ length s.now) }
     ensures { result ≡ word_at n s.now at }
 {
-    if n == 8 {
-        return u64_at(s, at);
+    match n {
+        8 => u64_at(s, at),
+        4 => u32_at(s, at) as u64,
+        2 => u64::from(u16_at(s, at)),
+        _ => u64::from(s[at]),
     }
-    if n == 4 {
-        return u32_at(s, at) as u64;
-    }
-    if n == 2 {
-        return u16_at(s, at) as u64;
-    }
-    wide(s[at])
 }
 
-// The bytes of v, the lowest first.
-fn bytes_of(v: u64) -> [u8; 8]
-    ensures { result ≡ word_bytes 8 v }
+// Writes the N lowest bytes of v at `at`, in one store.
+#[tactic(auto, using(crate::proofs::Library::first_bytes))]
+fn put_low<const N: usize>(s: &mut [u8], at: usize, v: u64)
+    requires { (N ≤ 8) × (at + N ≤ length s.old) }
+    ensures { s.new ≡ splice s.old at (word_bytes N v) }
 {
-    [
-        (v % 256) as u8,
-        (v / 256 % 256) as u8,
-        (v / 65536 % 256) as u8,
-        (v / 16777216 % 256) as u8,
-        (v / 4294967296 % 256) as u8,
-        (v / 1099511627776 % 256) as u8,
-        (v / 281474976710656 % 256) as u8,
-        (v / 72057594037927936) as u8,
-    ]
-}
-
-// Writes the n lowest bytes of v at `at`, from an array of its own: one that several sizes share is taken apart where they differ. With a
-// constant n this is one store.
-fn put_low(s: &mut [u8], at: usize, n: usize, v: u64)
-    requires { (n ≤ 8) × (at + n ≤ length s.old) }
-    ensures { s.new ≡ splice s.old at (word_bytes n v) }
-{
-    let bytes = bytes_of(v);
-    runs::put(s, at, &bytes, n);
+    let bytes = v.to_le_bytes();
+    runs::put(s, at, &bytes, N);
 }
 
 // Writes the n lowest bytes of v at `at`, n being 1, 2, 4 or 8. Each size is one store.
@@ -83,17 +69,10 @@ pub fn write(s: &mut [u8], at: usize, n: usize, v: u64)
     requires { (is_size n ≡ true) × (at + n ≤ length s.old) }
     ensures { s.new ≡ splice s.old at (word_bytes n v) }
 {
-    if n == 8 {
-        put_low(s, at, 8, v);
-        return;
+    match n {
+        8 => put_low::<8>(s, at, v),
+        4 => put_low::<4>(s, at, v),
+        2 => put_low::<2>(s, at, v),
+        _ => put_low::<1>(s, at, v),
     }
-    if n == 4 {
-        put_low(s, at, 4, v);
-        return;
-    }
-    if n == 2 {
-        put_low(s, at, 2, v);
-        return;
-    }
-    put_low(s, at, 1, v);
 }

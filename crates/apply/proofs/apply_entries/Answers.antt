@@ -1,5 +1,4 @@
--- `apply::apply_entries` meets its contract. The loop's invariant: the first i entries are applied. The measure is what is left of them.
--- Assumes nothing.
+-- `apply::apply_entries` meets its contract. The loop's invariant: the first i entries are applied. Assumes nothing.
 use Rattle.std.proofs.Common.{◌≡◌, true, ◌+◌, ◌<◌, length, ℕ, List, refl, ap, ◌∙◌, add-one, arith}
 use Rattle.apply.specs.Apply.{list_count, change_good, list_good, apply_entry, applied}
 use Rattle.apply.proofs.apply_entries.Goals as goal
@@ -17,18 +16,18 @@ module _ (l : List ℕ) (a : Account) (d : List ℕ) {x : List ℕ} (i : ℕ) (e
   unfolding applied
   turn f = f ∙ rw (e, add-one i)
 
-pub u32_at-n-requires : goal.u32_at-n-requires
-u32_at-n-requires c = let f = layout_facts _ (list_facts _ _ _ c.requires).0 in omega arith
+pub u32_at-i-end-requires : goal.u32_at-i-end-requires
+u32_at-i-end-requires c = let f = layout_facts _ (list_facts _ _ _ c.requires).0 in omega arith
 
 pub loop-i-init : goal.loop-i-init
 unfolding applied
-loop-i-init c = (omega arith, refl)
+loop-i-init c = refl
 
 pub apply_entry-requires-clause-l_value : goal.apply_entry-requires-clause-l_value
 apply_entry-requires-clause-l_value c = ((list_facts _ _ _ c.requires).0, omega arith)
 
 pub apply_entry-requires-clause-i_value : goal.apply_entry-requires-clause-i_value
-apply_entry-requires-clause-i_value c = good_yet _ _ _ _ c.loop-i.invariant.1 c.requires (omega arith)
+apply_entry-requires-clause-i_value c = good_yet _ _ _ _ c.loop-i.invariant c.requires (omega arith)
 
 pub loop-i-preserved : goal.loop-i-preserved
-loop-i-preserved c = (omega arith, turn _ _ _ _ c.loop-i.invariant.1 c.apply_entry.ensures)
+loop-i-preserved c = turn _ _ _ _ c.loop-i.invariant c.apply_entry.ensures

@@ -1,6 +1,6 @@
 -- `apply::apply_entry` meets its contract: the live bytes of an entry of this account lie in the list and in the data, and are put in;
 -- another account's entry changes nothing. Assumes nothing.
-use Rattle.std.proofs.Common.{◌≡◌, true, ◌+◌, ◌≤◌, ◌<◌, length, ℕ, ◌*◌, List, ◌∙◌, arith, eq-eqb, ne_eqb}
+use Rattle.std.proofs.Common.{◌≡◌, true, ◌+◌, ◌≤◌, ◌<◌, length, ℕ, ◌*◌, List, ◌∙◌, arith, eqb, eqb-true, eq-eqb, false, sym}
 use Rattle.apply.specs.Apply.{list_count, change_account, layout_exact, change_good, apply_entry}
 use Rattle.apply.proofs.apply_entry.Goals as goal
 use Rattle.layout.specs.Page.{page_size}
@@ -14,9 +14,9 @@ use Rattle.apply.proofs.Good.{layout_facts, change_facts, change_inside, page_in
 
 module _ (l : List ℕ) (a : Account) (i : ℕ) {r : Change} (read : r ≡ change_in l i) where
   -- another account's
-  another : (d : List ℕ) → (r.account.0 ≡ a.0 → ⊥) → d ≡ apply_entry l a d i
+  another : (d : List ℕ) → eqb r.account.0 a.0 ≡ false → d ≡ apply_entry l a d i
   unfolding apply_entry
-  another d n = rw (ne_eqb _ _ (rw read at n))
+  another d n = rw (rw read at n)
 
   module _ (f : r.account.0 ≡ a.0) {n at from : ℕ} (g : n ≡ list_count l) (h : at ≡ page_start r.page) (k : from ≡ pages_at n) where
     -- it is this account's
@@ -37,8 +37,8 @@ module _ (l : List ℕ) (a : Account) (i : ℕ) {r : Change} (read : r ≡ chang
     unfolding apply_entry
     put_in d m = m ∙ rw (h, k, g, read, eq-eqb _ _ own)
 
-pub read_change-e-requires : goal.read_change-e-requires
-read_change-e-requires c =
+pub read-e-requires : goal.read-e-requires
+read-e-requires c =
     change_inside _ _ (λ k. (c.type_inv.l k).fits) c.requires.l_value.0 c.requires.l_value.1
 
 pub u32_at-n-requires : goal.u32_at-n-requires
@@ -46,12 +46,12 @@ u32_at-n-requires c = let f = layout_facts _ c.requires.l_value.0 in omega arith
 
 pub copy-requires : goal.copy-requires
 copy-requires c =
-    fits _ _ _ c.read_change-e.ensures c.if-e-a.true c.u32_at-n.ensures.0 c.page_start.ensures c.pages_at.ensures _
+    fits _ _ _ c.read-e.ensures (eqb-true _ _ (sym c.eq.ensures ∙ c.if-eq.true)) c.u32_at-n.ensures.0 c.page_start.ensures c.pages_at.ensures _
     c.requires.l_value.0 c.requires.l_value.1 c.requires.i_value
 
-pub returns-then-e-a : goal.returns-then-e-a
-returns-then-e-a c =
-    put_in _ _ _ c.read_change-e.ensures c.if-e-a.true c.u32_at-n.ensures.0 c.page_start.ensures c.pages_at.ensures _ c.copy.ensures
+pub returns-then-eq : goal.returns-then-eq
+returns-then-eq c =
+    put_in _ _ _ c.read-e.ensures (eqb-true _ _ (sym c.eq.ensures ∙ c.if-eq.true)) c.u32_at-n.ensures.0 c.page_start.ensures c.pages_at.ensures _ c.copy.ensures
 
-pub returns-else-e-a : goal.returns-else-e-a
-returns-else-e-a c = another _ _ _ c.read_change-e.ensures _ c.if-e-a.false
+pub returns-else-eq : goal.returns-else-eq
+returns-else-eq c = another _ _ _ c.read-e.ensures _ (sym c.eq.ensures ∙ c.if-eq.false)

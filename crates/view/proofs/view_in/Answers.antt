@@ -12,32 +12,31 @@ use Rattle.pages.specs.declared.Page.{Page}
 use Rattle.pages.specs.declared.Frame.{Frame}
 use Rattle.frames.specs.Table.{frame_of}
 use Rattle.frames.specs.declared.claim.Claim.TheVariants.{Copy}
-use Rattle.frames.specs.declared.claim.Found.{Found}
-use Rattle.frames.specs.declared.claim.Found.TheVariants.{At, Nothing}
 use Rattle.view.specs.declared.View.TheVariants.{InSnapshot, InPool}
+use Rattle.std.specs.Prelude.{Ok, None, Option, Some}
 
 module _ (c : List ℕ) (a : Account) (q : Page) (e : AccountEntry) {n m : ℕ} (size : n ≡ data_length e) (live : m ≡ live_of n q) where
   -- so many bytes are live
   count : live_of (data_length e) q ≡ m
   count = sym (live ∙ rw size)
 
-  module _ (some : 1 ≤ m) {x : Found} (searched : x ≡ frame_of c (Copy a q)) where
+  module _ (some : 1 ≤ m) {x : Option Frame} (searched : x ≡ frame_of c (Copy a q)) where
     -- the page has a copy
-    in_pool : {f : Frame} {at : ℕ} → x ≡ At f → at ≡ frame_start f → InPool at m ≡ view_of_entry c a q e
+    in_pool : {f : Frame} {at : ℕ} → x ≡ Some f → at ≡ frame_start f → Ok (InPool at m) ≡ view_of_entry c a q e
     unfolding view_of_entry need
     in_pool w v = rw (count, le-leb _ _ some, ← searched, w, v) (rw count)
 
     -- it has none
-    in_snapshot : {at : ℕ} → x ≡ Nothing → at ≡ page_start q → InSnapshot (e.start + at) m ≡ view_of_entry c a q e
+    in_snapshot : {at : ℕ} → x ≡ None → at ≡ page_start q → Ok (InSnapshot (e.start + at) m) ≡ view_of_entry c a q e
     unfolding view_of_entry need
     in_snapshot w v = rw (count, le-leb _ _ some, ← searched, w, v) (rw count)
 
-pub returns-in-At : goal.returns-in-At
-returns-in-At c =
+pub returns-in-Some : goal.returns-in-Some
+returns-in-Some c =
     in_pool _ _ _ _ c.data_length.ensures c.live_bytes-live.ensures.0 (omega arith) c.frame_of.ensures
-    c.in-At.is c.frame_start.ensures.0
+    c.in-Some.is c.frame_start.ensures.0
 
-pub returns-in-Nothing : goal.returns-in-Nothing
-returns-in-Nothing c =
+pub returns-in-None : goal.returns-in-None
+returns-in-None c =
     in_snapshot _ _ _ _ c.data_length.ensures c.live_bytes-live.ensures.0 (omega arith) c.frame_of.ensures
-    c.in-Nothing.is c.page_start.ensures
+    c.in-None.is c.page_start.ensures

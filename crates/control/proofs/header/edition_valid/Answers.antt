@@ -3,6 +3,7 @@ use Rattle.choice.specs.Choice.{both, either}
 use Rattle.control.specs.Control.{edition_known}
 use Rattle.control.proofs.header.edition_valid.Goals as goal
 use Rattle.std.proofs.Math.Decide.{ℕ_discrete}
+use Rattle.words.proofs.Word.{word_append, word_fits}
 use Rattle.layout.specs.Control.{older, newer}
 use Rattle.choice.proofs.Tests.{by_test}
 
@@ -22,4 +23,4 @@ joined e z h =
 pub returns : goal.returns
 returns c =
     c.is_edition.ensures
-    ∙ rw (c.u32_at.ensures.0, c.u32_at-2.ensures.0) (joined _ _ (omega arith))
+    ∙ rw (c.u64_at.ensures, word_append 4 4 c.args.c.now 16) (joined _ _ (word_fits 4 c.args.c.now 16 (λ k. (c.type_inv.c k).fits)))

@@ -37,4 +37,4 @@ put c c₁ c₂ k at i registers e hp hs hh l f g =
     g ∙ rw (r, f, fields i hp hs hh, e) (sym (put_parts c k i registers))
 
 pub returns : goal.returns
-returns c = put _ _ _ _ _ _ _ c.record_at-at.ensures (omega arith) (omega arith) (omega arith) (omega arith) c.write.ensures c.copy.ensures
+returns c = put _ _ _ _ _ _ _ c.record_at-at.ensures (omega arith) (omega arith) (omega arith) (omega arith) (rw (c.from.ensures, c.from-2.ensures, c.from-3.ensures) at c.write.ensures) c.copy.ensures

@@ -7,22 +7,13 @@ use Rattle.frame_search.proofs.Loops.{free_more, free_same}
 -- `frame_search::counting::wanted_after` meets its contract. The loop's invariant: what is left and the free entries from the start up to i are
 -- n together. Assumes nothing.
 pub returns-then-left-eq0 : goal.returns-then-left-eq0
-returns-then-left-eq0 c =
-    omega (
-      arith,
-      count_grows (is_free c.args.c.now) c.loop-i.i c.args.to
-          (omega arith),
-    )
+returns-then-left-eq0 c = omega (arith, count_grows (is_free c.args.c.now) c.loop-i.i c.args.to (omega arith))
 
 pub loop-i-preserved : goal.loop-i-preserved
-loop-i-preserved c = (omega arith, omega arith, grind (arith, free_more, free_same))
+loop-i-preserved c = grind (arith, free_more, free_same)
 
 pub returns : goal.returns
 returns c =
     let e : c.loop-i.i ≡ c.args.to = omega arith in
-    let h = rw e at c.loop-i.invariant.2 in
-    omega (
-      arith,
-      count_grows (is_free c.args.c.now) c.args.from c.args.to
-          (omega arith),
-    )
+    let h = rw e at c.loop-i.invariant in
+    omega (arith, count_grows (is_free c.args.c.now) c.args.from c.args.to (omega arith))

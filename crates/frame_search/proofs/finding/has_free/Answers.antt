@@ -6,7 +6,6 @@ use borrow.Author.Tests.{lt-leb}
 use Rattle.choice.specs.Search.{count}
 use Rattle.choice.proofs.Counting.{count_grows}
 use Rattle.control.specs.Control.{frames}
-use Rattle.control.proofs.Facts.{control_facts}
 
 -- `frame_search::finding::has_free` meets its contract: enough are free where none of n is left. Assumes nothing.
 -- none of n is left once as many are counted, in two parts
@@ -21,19 +20,6 @@ decided c n f few left r e l h g =
       | yes z ↦ eq-eqb r 0 z ∙ sym (le-leb n (count (is_free c) (frames c)) (omega arith))
       | no z ↦ ne_eqb r 0 z ∙ sym (lt-leb n (count (is_free c) (frames c)) (omega arith))
     ]
-
-pub frame_count-frames-requires : goal.frame_count-frames-requires
-frame_count-frames-requires c = (control_facts _ c.requires).header
-
-pub wanted_after-left-requires : goal.wanted_after-left-requires
-wanted_after-left-requires c =
-    let v = control_facts _ c.requires in
-    (omega arith, omega arith, omega arith)
-
-pub wanted_by_groups-requires : goal.wanted_by_groups-requires
-wanted_by_groups-requires c =
-    let v = control_facts _ c.requires in
-    (omega arith, omega arith, omega arith)
 
 pub returns : goal.returns
 returns c =

@@ -6,9 +6,7 @@ use Rattle.frame_search.proofs.Matches.{page_matches}
 
 pub returns : goal.returns
 returns c =
-    c.nearest_match.ensures
-    ∙ seek_ext _ _ _ _
-    (λ i.
-    page_matches _ i (λ j. omega (arith, c.type_inv.c j)) c.args.r
-    c.args.p _ c.usage_of.ensures)
+    let a = c.args in
+    rw (c.from.ensures, c.from-2.ensures) at c.nearest_match.ensures
+    ∙ seek_ext _ _ _ _ (λ i. page_matches _ i (λ j. omega (arith, c.type_inv.c j)) a.r a.p _ c.usage_of.ensures)
     ∙ search_start _ _

@@ -12,5 +12,5 @@ returns-then-usage_at-eq-COPY c =
 
 pub returns : goal.returns
 returns c =
-    c.nearest_match.ensures
+    rw c.from.ensures at c.nearest_match.ensures
     ∙ seek_ext _ _ _ _ (λ i. used_matches _ i (λ j. omega (arith, c.type_inv.c j)))

@@ -7,4 +7,5 @@ use Rattle.frame_search.proofs.finding.next_free.Goals as goal
 
 pub returns : goal.returns
 returns c =
-    c.nearest_match.ensures ∙ seek_ext _ _ _ _ (end_ext c.args.end _ _ _ (λ i. free_matches _ i (λ j. omega (arith, c.type_inv.c j))))
+    rw c.from.ensures at c.nearest_match.ensures
+    ∙ seek_ext _ _ _ _ (end_ext c.args.end _ _ _ (λ i. free_matches _ i (λ j. omega (arith, c.type_inv.c j))))

@@ -1,21 +1,28 @@
-use Rattle.std.proofs.Common.{◌∙◌, arith}
-use Rattle.choice.proofs.Parts.{part_found, part_ends, part_fails}
+use Rattle.std.proofs.Common.{◌≡◌, ◌+◌, ◌*◌, ◌∙◌, arith, rules, Some, None}
+use Rattle.choice.proofs.Parts.{part_fails}
+use Rattle.frame_search.specs.Match.{copy_of}
+use Rattle.frame_search.proofs.Ranges.{find_within}
 use Rattle.frame_search.proofs.keyed.by_key.Goals as goal
 
-pub returns-then-found-i : goal.returns-then-found-i
-returns-then-found-i c =
-    part_found _ _ _ _ (omega arith) c.loop-i-test.true c.loop-i.invariant.1 _
-    c.one_by_one-found.ensures c.if-found-i.true
+pub overflow_add-result : goal.overflow_add-result
+overflow_add-result c =
+    let a = c.args in
+    let w = find_within (copy_of a.c.now a.key) a.frames _ 16 _ _ (Some c.in-Some.k) (omega arith) c.loop-g.invariant c.in-Some.ensures.ran (λ x b q k. search rules) in
+    omega (arith, w.0)
 
-pub returns-then-group_has_key : goal.returns-then-group_has_key
-returns-then-group_has_key c =
-    c.by_groups.ensures
-    ∙ part_ends _ _ _ _ (omega arith) c.loop-i-test.true
-    c.loop-i.invariant.1 _ c.one_by_one-found.ensures c.if-found-i.false
+pub returns-in-Some : goal.returns-in-Some
+returns-in-Some c =
+    let a = c.args in
+    (find_within (copy_of a.c.now a.key) a.frames _ 16 _ _ (Some c.in-Some.k) (omega arith) c.loop-g.invariant c.in-Some.ensures.ran (λ x b q k. search rules)).1
 
-pub loop-i-preserved : goal.loop-i-preserved
-loop-i-preserved c = (
-  omega arith,
-  part_fails _ _ _ _ (omega arith) c.loop-i-test.true c.loop-i.invariant.1
-      (c.group_has_key.ensures c.if-group_has_key.false),
-)
+pub returns-in-None : goal.returns-in-None
+returns-in-None c =
+    let a = c.args in
+    rw (c.from.ensures, c.from-2.ensures) at c.by_groups.ensures
+    ∙ find_within (copy_of a.c.now a.key) a.frames _ 16 _ _ None (omega arith) c.loop-g.invariant c.in-None.ensures.ran (λ x b q k. search rules)
+
+pub loop-g-preserved : goal.loop-g-preserved
+loop-g-preserved c =
+    let t = c.loop-g in
+    let s : c.args.from + 16 * (t.g + 1) ≡ c.args.from + 16 * t.g + 16 = omega arith in
+    rw s (part_fails _ _ _ _ (omega arith) (omega arith) t.invariant (c.group_has_key.ensures c.if-group_has_key.false))

@@ -1,21 +1,15 @@
-use Rattle.std.proofs.Common.{◌≡◌, false, Bool, true, ◌||◌, refl, ◌∙◌, arith}
-use Rattle.frame_search.proofs.keyed.group_has_key.Goals as goal
+use Rattle.std.proofs.Common.{◌≡◌, ◌+◌, ◌-◌, ◌/◌, ◌%◌, eqb, rules, arith}
 use borrow.Author.Tests.{eqb-false}
-use Rattle.choice.proofs.Tests.{fails, differ}
-use Rattle.frame_search.proofs.Matches.{key_there, none_more}
+use Rattle.choice.proofs.Tests.{fails}
+use Rattle.words.specs.Words.{word_at}
+use Rattle.frames.specs.Table.{frame_entry_at}
+use Rattle.frame_search.proofs.Ranges.{fold_any}
+use Rattle.frame_search.proofs.Matches.{key_there}
+use Rattle.frame_search.proofs.keyed.group_has_key.Goals as goal
 
--- `frame_search::keyed::group_has_key` meets its contract. The loop's invariant: where `any` is false, none of the k entries from i on is a copy
--- with the key. Assumes nothing.
--- where one of two tests passes does not hold, both fail
-neither : (x y : Bool) → x || y ≡ false → (x ≡ false) × (y ≡ false)
-neither true y e = absurd (differ true refl e)
-neither false y e = (refl, e)
-
-pub loop-k-preserved : goal.loop-k-preserved
-loop-k-preserved c = (
-  omega arith,
-  λ e.
-      let f = neither _ _ e in
-      none_more _ _ _ (c.loop-k.invariant.1 f.0)
-      (fails _ (λ m. eqb-false _ _ f.1 (c.key_at.ensures ∙ key_there _ _ _ m))),
-)
+pub returns : goal.returns
+returns c e j l m =
+    let a = c.args in
+    let s : a.i + (j - a.i) ≡ j = omega arith in
+    let h = rw s at (fold_any (λ k. eqb (word_at 8 a.c.now (frame_entry_at (a.i + k)) / 65536 % 4294967296) a.key) 16 _ _ (λ k x y q t. search rules) c.fold.ensures.ran e (j - a.i) (omega arith) (omega arith)) in
+    fails _ (λ t. eqb-false _ _ h (key_there _ _ _ t))

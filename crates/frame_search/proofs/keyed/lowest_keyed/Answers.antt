@@ -6,10 +6,10 @@ use Rattle.frame_search.proofs.keyed.lowest_keyed.Goals as goal
 
 pub returns-then-found-lt-FIRST : goal.returns-then-found-lt-FIRST
 returns-then-found-lt-FIRST c =
-    part_found _ _ 0 first_keyed (omega arith) c.if-frames-ge-FIRST.true (search_start _ _) _ c.first_keyed-found.ensures c.if-found-lt-FIRST.true
+    part_found _ _ 0 first_keyed (omega arith) c.if-frames-lt-FIRST.false (search_start _ _) _ c.first_keyed-found.ensures c.if-found-lt-FIRST.true
 
-pub returns-then-frames-ge-FIRST : goal.returns-then-frames-ge-FIRST
-returns-then-frames-ge-FIRST c =
-    c.by_key.ensures
-    ∙ part_ends _ _ 0 first_keyed (omega arith) c.if-frames-ge-FIRST.true (search_start _ _) _ c.first_keyed-found.ensures
+pub returns : goal.returns
+returns c =
+    c.by_key-2.ensures
+    ∙ part_ends _ _ 0 first_keyed (omega arith) c.if-frames-lt-FIRST.false (search_start _ _) _ c.first_keyed-found.ensures
     c.if-found-lt-FIRST.false

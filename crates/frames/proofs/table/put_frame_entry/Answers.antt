@@ -30,5 +30,5 @@ entry_put c i at v e d p q r = cc
 
 pub returns : goal.returns
 returns c =
-    entry_put _ _ _ _ _ _ c.frame_entry_at.ensures (one_word _ (omega arith) (omega arith) (omega arith) (omega arith))
-    c.write.ensures
+    entry_put _ _ _ _ c.args.e _ c.frame_entry_at.ensures (one_word c.args.e (omega arith) (omega arith) (omega arith) (omega arith))
+    (rw (c.from.ensures, c.from-2.ensures, c.from-3.ensures, c.from-4.ensures, c.from-5.ensures) at c.write.ensures)

@@ -46,16 +46,16 @@ header_words n f d e =
     ∙ sym (header_splits (zeros n) f d e ∙ ap (λ (bs : List ℕ). splice y reserved_at bs) (zero_word n f d e) ∙ run_same 4 y reserved_at)
 
 -- the writes in order
-written : (c : List ℕ) (x : Start) {f : ℕ} {z c₁ c₂ c₃ c₄ c₅ c₆ : List ℕ} → f ≡ frames_in (length c) → z ≡ splice c 0 (zeros (length c))
+written : (c : List ℕ) (x : Start) {f d a : ℕ} {z c₁ c₂ c₃ c₄ c₅ c₆ : List ℕ} → f ≡ frames_in (length c) → d ≡ x.edition → a ≡ x.program.0 → z ≡ splice c 0 (zeros (length c))
     → c₁ ≡ splice z 0 (word_bytes 4 f)
     → c₂ ≡ splice c₁ 4 (word_bytes 4 1) → c₃ ≡ splice c₂ 8 (word_bytes 4 shadow_at) → c₄ ≡ splice c₃ 12 (word_bytes 4 table_at)
-    → c₅ ≡ splice c₄ edition_at (word_bytes 4 x.edition)
-    → c₆ ≡ splice c₅ (record_at 1) (word_bytes 2 x.program.0) → c₆ ≡ fresh (length c) x
+    → c₅ ≡ splice c₄ edition_at (word_bytes 4 d)
+    → c₆ ≡ splice c₅ (record_at 1) (word_bytes 2 a) → c₆ ≡ fresh (length c) x
 unfolding fresh
-written c x n e e₁ e₂ e₃ e₄ e₅ e₆ =
+written c x n ed ea e e₁ e₂ e₃ e₄ e₅ e₆ =
     e₆
-    ∙ rw (e₅, e₄, e₃, e₂, e₁, n, e, splice_whole c (zeros (length c)) (length-zeros (length c)), header_words (length c) (frames_in (length c)) 1 x.edition)
+    ∙ rw (e₅, e₄, e₃, e₂, e₁, n, ed, ea, e, splice_whole c (zeros (length c)) (length-zeros (length c)), header_words (length c) (frames_in (length c)) 1 x.edition)
 
 pub returns : goal.returns
 returns c =
-    written _ _ c.frames_in-frames.ensures c.clear.ensures c.write.ensures c.write-2.ensures c.write-3.ensures c.write-4.ensures c.write-5.ensures c.write-6.ensures
+    written _ _ c.frames_in-frames.ensures c.from.ensures c.from-2.ensures c.clear.ensures c.write.ensures c.write-2.ensures c.write-3.ensures c.write-4.ensures c.write-5.ensures c.write-6.ensures

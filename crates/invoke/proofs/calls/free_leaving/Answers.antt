@@ -1,4 +1,4 @@
-use Rattle.std.proofs.Common.{◌≡◌, true, List, ℕ, ◌≤◌, length, refl, ap, ◌∙◌, arith}
+use Rattle.std.proofs.Common.{◌≡◌, true, List, ℕ, ◌+◌, ◌*◌, ◌≤◌, length, refl, ap, ◌∙◌, arith}
 use Rattle.layout.specs.Control.{frame_limit}
 use Rattle.control.specs.Control.{control_valid, frames}
 use Rattle.frames.specs.Table.{frame_entry_at}
@@ -16,25 +16,28 @@ inside c x d n f v h e =
     let m : length x ≡ length c = ap length h ∙ (freed_only d c n).size in
     omega arith
 
-pub loop-i-init : goal.loop-i-init
+pub loop-group-init : goal.loop-group-init
 unfolding freed_below
-loop-i-init c = (omega arith, refl)
+loop-group-init c = refl
 
 pub group_may_hold_regions-requires : goal.group_may_hold_regions-requires
-group_may_hold_regions-requires c = let l = (inside _ _ _ _ _ c.requires c.loop-i.invariant.1 c.frame_count-frames.ensures.0) in omega arith
+group_may_hold_regions-requires c =
+    let l = (inside _ _ _ _ _ c.requires c.loop-group.invariant c.frame_count-frames.ensures.0) in omega arith
 
 pub free_within-requires : goal.free_within-requires
-free_within-requires c = let l = (inside _ _ _ _ _ c.requires c.loop-i.invariant.1 c.frame_count-frames.ensures.0) in omega arith
+free_within-requires c =
+    let l = (inside _ _ _ _ _ c.requires c.loop-group.invariant c.frame_count-frames.ensures.0) in omega arith
 
-pub loop-i-preserved : goal.loop-i-preserved
-loop-i-preserved c = (
-  omega arith,
-  elim c.if-group_may_hold_regions.branch [
-    | then-group_may_hold_regions w ↦ w.c-is ∙ w.free_within.ensures _ c.loop-i.invariant.1
-    | else-group_may_hold_regions w ↦
-        w.c-is ∙ run_kept _ _ _ c.loop-i.invariant.1 _ (c.group_may_hold_regions.ensures w.if-group_may_hold_regions.false Stack)
-  ],
-)
+pub loop-group-preserved : goal.loop-group-preserved
+loop-group-preserved c =
+    let e : 16 * c.loop-group.group + 16 ≡ 16 * (c.loop-group.group + 1) = omega arith in
+    rw (← e)
+    (elim c.if-group_may_hold_regions.branch [
+      | then-group_may_hold_regions w ↦ w.c-is ∙ w.free_within.ensures _ c.loop-group.invariant
+      | else-group_may_hold_regions w ↦
+          w.c-is ∙ run_kept _ _ _ c.loop-group.invariant _ (c.group_may_hold_regions.ensures w.if-group_may_hold_regions.false Stack)
+    ])
 
 pub free_within-requires-2 : goal.free_within-requires-2
-free_within-requires-2 c = let l = (inside _ _ _ _ _ c.requires c.loop-i.invariant.1 c.frame_count-frames.ensures.0) in omega arith
+free_within-requires-2 c =
+    let l = (inside _ _ _ _ _ c.requires c.loop-group.invariant c.frame_count-frames.ensures.0) in omega arith

@@ -1,10 +1,7 @@
-use Rattle.std.proofs.Common.{◌≡◌, ◌≤◌, ◌-◌, ℕ, List, length}
+use Rattle.std.proofs.Common.{◌≡◌, ℕ, List, length}
 use Rattle.invoke.specs.Invoke.{freed_below}
 use Rattle.invoke.proofs.calls.free_within.Given as goal
 
 abbrev pub invariant-loop-i : goal.invariant-loop-i
 invariant-loop-i l =
-    (l.i ≤ l.to) × ((length l.c ≡ length l.initial.c) × ((d : List ℕ) → l.initial.c ≡ freed_below l.depth d l.from → l.c ≡ freed_below l.depth d l.i))
-
-abbrev pub decreases-loop-i : goal.decreases-loop-i
-decreases-loop-i l = l.to - l.i
+    (length l.c ≡ length l.initial.c) × ((d : List ℕ) → l.initial.c ≡ freed_below l.depth d l.from → l.c ≡ freed_below l.depth d l.i)

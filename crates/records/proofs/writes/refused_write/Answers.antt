@@ -3,10 +3,10 @@ use Rattle.records.specs.Calls.{judged}
 use Rattle.records.proofs.writes.refused_write.Goals as goal
 use Rattle.refusal.proofs.Checks.{refusal_number}
 
-pub returns-in-Allowed : goal.returns-in-Allowed
+pub returns-in-Ok : goal.returns-in-Ok
 unfolding judged store_outcome
-returns-in-Allowed c = rw (← c.translate-spanned.ensures, c.in-Allowed.is, c.number.ensures)
+returns-in-Ok g c = rw (g.met.R.Record.size, ← c.translate.ensures, c.in-Ok.is)
 
-pub returns-in-Refused : goal.returns-in-Refused
+pub returns-in-Err : goal.returns-in-Err
 unfolding judged store_outcome
-returns-in-Refused c = rw (c.outcome_of.ensures, ← c.translate-spanned.ensures, c.in-Refused.is, refusal_number _)
+returns-in-Err g c = rw (g.met.R.Record.size, ← c.translate.ensures, c.in-Err.is, refusal_number _)

@@ -104,12 +104,12 @@ module _ {r : Region} {size k pages : ℕ} {c₀ p₀ : List ℕ} {f at : ℕ} {
       }
 
 pub loop-k-init : goal.loop-k-init
-loop-k-init c = (omega arith, omega arith, omega arith, start _ _ _ _)
+loop-k-init c = (omega arith, start _ _ _ _)
 
 pub next_free-at-requires : goal.next_free-at-requires
 next_free-at-requires c =
     let v = control_facts _ c.requires.c_value.0 in
-    let z = same_control c.loop-k.invariant.3 in
+    let z = same_control c.loop-k.invariant.1 in
     omega arith
 
 pub overflow_cast-at : goal.overflow_cast-at
@@ -117,26 +117,24 @@ overflow_cast-at c =
     let v = control_facts _ c.requires.c_value.0 in
     let x =
     room
-    (step c.loop-k.invariant.3 c.requires.c_value.0 c.requires.c_value.1 c.requires.size_le_pages.1 c.requires.size_le_pages.2 c.loop-k.invariant.0
-    c.loop-k-test.true c.frame_count-frames.ensures.0 c.loop-k.invariant.2 c.next_free-at.ensures) in
+    (step c.loop-k.invariant.1 c.requires.c_value.0 c.requires.c_value.1 c.requires.size_le_pages.1 c.requires.size_le_pages.2 c.loop-k.auto.k
+    c.loop-k-test.true c.frame_count-frames.ensures.0 c.loop-k.invariant.0 c.next_free-at.ensures) in
     omega arith
 
 pub take_page-requires : goal.take_page-requires
 take_page-requires c =
     let x =
     room
-    (step c.loop-k.invariant.3 c.requires.c_value.0 c.requires.c_value.1 c.requires.size_le_pages.1 c.requires.size_le_pages.2 c.loop-k.invariant.0
-    c.loop-k-test.true c.frame_count-frames.ensures.0 c.loop-k.invariant.2 c.next_free-at.ensures) in
+    (step c.loop-k.invariant.1 c.requires.c_value.0 c.requires.c_value.1 c.requires.size_le_pages.1 c.requires.size_le_pages.2 c.loop-k.auto.k
+    c.loop-k-test.true c.frame_count-frames.ensures.0 c.loop-k.invariant.0 c.next_free-at.ensures) in
     (x.1, x.2)
 
 pub loop-k-preserved : goal.loop-k-preserved
 loop-k-preserved c =
     let s =
-    step c.loop-k.invariant.3 c.requires.c_value.0 c.requires.c_value.1 c.requires.size_le_pages.1 c.requires.size_le_pages.2 c.loop-k.invariant.0
-    c.loop-k-test.true c.frame_count-frames.ensures.0 c.loop-k.invariant.2 c.next_free-at.ensures in
+    step c.loop-k.invariant.1 c.requires.c_value.0 c.requires.c_value.1 c.requires.size_le_pages.1 c.requires.size_le_pages.2 c.loop-k.auto.k
+    c.loop-k-test.true c.frame_count-frames.ensures.0 c.loop-k.invariant.0 c.next_free-at.ensures in
     let x = room s in (
-      omega arith,
-      omega arith,
       omega arith,
       turn s _ _ _ _ (ap (λ (d : ℕ). d - 1) c.invocation_count.ensures.0) c.page_at.ensures c.take_page.ensures.c_after c.take_page.ensures.pool_after,
     )

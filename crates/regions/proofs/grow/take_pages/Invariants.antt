@@ -11,8 +11,4 @@ pub record Turn (r : Region) (size : ℕ) (c₀ p₀ : List ℕ) (n at : ℕ) (c
   pub passed : (j : ℕ) → j < at → is_free c j ≡ false
 
 abbrev pub invariant-loop-k : goal.invariant-loop-k
-invariant-loop-k l = (l.size ≤ l.k) × (l.k ≤ l.pages) × (l.at ≤ l.frames) × Turn l.r l.size l.initial.c l.initial.pool (l.k - l.size) l.at l.c l.pool
-
--- proposed from the loop's first test
-abbrev pub decreases-loop-k : goal.decreases-loop-k
-decreases-loop-k l = l.pages - l.k
+invariant-loop-k l = (l.at ≤ l.frames) × Turn l.r l.size l.initial.c l.initial.pool (l.k - l.size) l.at l.c l.pool

@@ -1,8 +1,5 @@
--- `regions::shrink::all_leave` meets its contract. The loop's invariant: the frame of each of the first j pages may be freed.
--- Assumes nothing.
-use Rattle.std.proofs.Common.{◌≡◌, true, ℕ, ◌+◌, ◌-◌, Bool, List, refl, sym, ap, ◌∙◌, arith, leb, le-leb}
-use Rattle.regions.specs.Resize.{all_leave, page_frame, may_leave}
-use Rattle.regions.proofs.shrink.all_leave.Goals as goal
+-- `regions::shrink::all_leave` meets its contract. The loop's invariant: the frames before the next may be freed. Assumes nothing.
+use Rattle.std.proofs.Common.{◌≡◌, true, ℕ, ◌+◌, ◌-◌, Bool, List, length, refl, sym, ap, ◌∙◌, arith, leb, le-leb}
 use borrow.Author.Tests.{lt-leb}
 use Rattle.choice.specs.Search.{every}
 use Rattle.choice.proofs.Every.{every_turn, every_fails}
@@ -10,12 +7,9 @@ use Rattle.control.specs.Control.{depth}
 use Rattle.control.specs.declared.shadow.Region.{Region}
 use Rattle.frames.specs.Table.{frame_entry_of}
 use Rattle.frames.specs.declared.table.FrameEntry.{FrameEntry}
-use Rattle.regions.proofs.Shrunk.{FoundAt}
-use Rattle.regions.proofs.Listed.{listed_inside}
-
--- the test of each page: its frame may be freed
-abbrev may : List ℕ → Region → ℕ → ℕ → Bool
-may c r k j = may_leave c (page_frame c r (k + j))
+use Rattle.regions.specs.Resize.{all_leave, page_frame}
+use Rattle.regions.proofs.Shrunk.{FoundAt, may}
+use Rattle.regions.proofs.shrink.all_leave.Goals as goal
 
 -- where i is its frame, it is by the tag of the entry, and the depth
 tagged : (c : List ℕ) (r : Region) (k j i d : ℕ) (e : FrameEntry) → FoundAt (page_frame c r (k + j)) i → d ≡ depth c → e ≡ frame_entry_of c i
@@ -29,24 +23,24 @@ start : (t : ℕ → Bool) → every t 0 ≡ true
 unfolding every
 start t = refl
 
-pub loop-j-init : goal.loop-j-init
-loop-j-init c = (omega arith, λ r f. start (may _ r _))
+pub loop-frame-init : goal.loop-frame-init
+loop-frame-init c = λ r k f. start (may _ r k)
 
-pub frame_entry-requires : goal.frame_entry-requires
-frame_entry-requires c =
-    listed_inside c.requires.1 c.requires.0 _ c.loop-j-test.true
-
-pub returns-then-frame_entry-depth : goal.returns-then-frame_entry-depth
+pub returns-then-from-depth : goal.returns-then-from-depth
 unfolding all_leave
-returns-then-frame_entry-depth c =
-    sym (every_fails (may _ _ _) _ _ c.loop-j-test.true (tagged _ _ _ _ _ _ _ (c.requires.1.each _ c.loop-j-test.true) (ap (λ (x : ℕ). x - 1) c.invocation_count-depth.ensures.0) c.frame_entry.ensures ∙ lt-leb _ _ c.if-frame_entry-depth.true))
+returns-then-from-depth c = λ r k f.
+    sym (every_fails (may _ r k) _ _ c.loop-frame-test.true
+    (tagged _ r k _ _ _ _ (f.each _ c.loop-frame-test.true) (ap (λ (x : ℕ). x - 1) c.invocation_count-depth.ensures.0) c.frame_entry.ensures
+    ∙ lt-leb _ _ (rw c.from.ensures at c.if-from-depth.true)))
 
-pub loop-j-preserved : goal.loop-j-preserved
-loop-j-preserved c =
-    (omega arith, λ r f. every_turn (may _ r _) _ (c.loop-j.invariant.1 r f) (tagged _ r _ _ _ _ _ (f.each _ c.loop-j-test.true) (ap (λ (x : ℕ). x - 1) c.invocation_count-depth.ensures.0) c.frame_entry.ensures ∙ le-leb _ _ c.if-frame_entry-depth.false))
+pub loop-frame-preserved : goal.loop-frame-preserved
+loop-frame-preserved c = λ r k f.
+    every_turn (may _ r k) _ (c.loop-frame.invariant r k f)
+    (tagged _ r k _ _ _ _ (f.each _ c.loop-frame-test.true) (ap (λ (x : ℕ). x - 1) c.invocation_count-depth.ensures.0) c.frame_entry.ensures
+    ∙ le-leb _ _ (rw c.from.ensures at c.if-from-depth.false))
 
 pub returns : goal.returns
 unfolding all_leave
 returns c =
-    let e : c.loop-j.j ≡ c.args.n = omega arith in
-    sym (rw e at (c.loop-j.invariant.1 _ c.requires.1))
+    let e : c.loop-frame.frame-index ≡ length c.args.table.now = omega arith in
+    λ r k f. sym (rw e at (c.loop-frame.invariant r k f))

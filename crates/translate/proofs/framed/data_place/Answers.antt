@@ -7,12 +7,13 @@ use Rattle.pages.specs.Pages.{page_of}
 use Rattle.pages.specs.declared.Page.{Page}
 use Rattle.frames.specs.Table.{frame_of}
 use Rattle.frames.specs.declared.claim.Claim.TheVariants.{Copy}
-use Rattle.frames.specs.declared.claim.Found.{Found}
 use Rattle.frames.proofs.Claims.{search_found, search_none}
+use Rattle.std.specs.Prelude.{Option}
+use Rattle.pages.specs.declared.Frame.{Frame}
 
 -- `translate::framed::data_place` meets its contract: the frame that was found decides, and where there is none the kind. Assumes nothing.
 -- the definition looks at what was found
-looked : (c : List ℕ) (kind : ℕ) (a : Account) (offset : ℕ) (at : ℕ) {p : Page} {x : Found} → p ≡ page_of offset
+looked : (c : List ℕ) (kind : ℕ) (a : Account) (offset : ℕ) (at : ℕ) {p : Page} {x : Option Frame} → p ≡ page_of offset
     → frame_of c (Copy a p) ≡ x → data_place c kind a offset at ≡ data_place_in c kind a offset at x
 unfolding data_place
 looked c kind a offset at page found = rw (← page, found)

@@ -89,22 +89,22 @@ pub returns-in-Data : goal.returns-in-Data
 returns-in-Data c = rw c.in-Data.is ((rw c.edition_of.ensures at c.of_data.ensures) ∙ columns_are _ _ _ _ _ c.whole_header-h.ensures (current_read _ c.invocation_count.ensures.0 c.invocation_at-i.ensures) Data)
 
 pub returns-in-Program : goal.returns-in-Program
-returns-in-Program c = rw c.in-Program.is ((rw c.permitted.ensures at c.of_program.ensures) ∙ columns_are _ _ _ _ _ c.whole_header-h.ensures (current_read _ c.invocation_count.ensures.0 c.invocation_at-i.ensures) Program)
+returns-in-Program c = rw c.in-Program.is ((rw c.plain.ensures at c.of_program.ensures) ∙ columns_are _ _ _ _ _ c.whole_header-h.ensures (current_read _ c.invocation_count.ensures.0 c.invocation_at-i.ensures) Program)
 
 pub returns-in-Transaction : goal.returns-in-Transaction
-returns-in-Transaction c = rw c.in-Transaction.is ((rw c.permitted-in-Transaction.ensures at c.of_transaction.ensures) ∙ columns_are _ _ _ _ _ c.whole_header-h.ensures (current_read _ c.invocation_count.ensures.0 c.invocation_at-i.ensures) Transaction)
+returns-in-Transaction c = rw c.in-Transaction.is ((rw c.plain-in-Transaction.ensures at c.of_transaction.ensures) ∙ columns_are _ _ _ _ _ c.whole_header-h.ensures (current_read _ c.invocation_count.ensures.0 c.invocation_at-i.ensures) Transaction)
 
 pub returns-in-Shadow : goal.returns-in-Shadow
-returns-in-Shadow c = rw c.in-Shadow.is ((rw c.permitted-in-Shadow.ensures at c.of_shadow.ensures) ∙ columns_are _ _ _ _ _ c.whole_header-h.ensures (current_read _ c.invocation_count.ensures.0 c.invocation_at-i.ensures) Shadow)
+returns-in-Shadow c = rw c.in-Shadow.is ((rw c.plain-in-Shadow.ensures at c.of_shadow.ensures) ∙ columns_are _ _ _ _ _ c.whole_header-h.ensures (current_read _ c.invocation_count.ensures.0 c.invocation_at-i.ensures) Shadow)
 
 pub returns-in-Context : goal.returns-in-Context
-returns-in-Context c = rw c.in-Context.is ((rw c.permitted-in-Context.ensures at c.of_context.ensures) ∙ columns_are _ _ _ _ _ c.whole_header-h.ensures (current_read _ c.invocation_count.ensures.0 c.invocation_at-i.ensures) Context)
+returns-in-Context c = rw c.in-Context.is ((rw c.plain-in-Context.ensures at c.of_context.ensures) ∙ columns_are _ _ _ _ _ c.whole_header-h.ensures (current_read _ c.invocation_count.ensures.0 c.invocation_at-i.ensures) Context)
 
 pub returns-in-Metadata : goal.returns-in-Metadata
-returns-in-Metadata c = rw c.in-Metadata.is ((rw c.permitted-in-Metadata.ensures at c.of_metadata.ensures) ∙ columns_are _ _ _ _ _ c.whole_header-h.ensures (current_read _ c.invocation_count.ensures.0 c.invocation_at-i.ensures) Metadata)
+returns-in-Metadata c = rw c.in-Metadata.is ((rw c.plain-in-Metadata.ensures at c.of_metadata.ensures) ∙ columns_are _ _ _ _ _ c.whole_header-h.ensures (current_read _ c.invocation_count.ensures.0 c.invocation_at-i.ensures) Metadata)
 
 pub returns-in-Stack : goal.returns-in-Stack
-returns-in-Stack c = rw c.in-Stack.is ((rw c.permitted-in-Stack.ensures at c.of_region.ensures) ∙ columns_are _ _ _ _ _ c.whole_header-h.ensures (current_read _ c.invocation_count.ensures.0 c.invocation_at-i.ensures) Stack)
+returns-in-Stack c = rw c.in-Stack.is ((rw c.plain-in-Stack.ensures at c.of_region.ensures) ∙ columns_are _ _ _ _ _ c.whole_header-h.ensures (current_read _ c.invocation_count.ensures.0 c.invocation_at-i.ensures) Stack)
 
 pub returns-in-Heap : goal.returns-in-Heap
-returns-in-Heap c = rw c.in-Heap.is ((rw c.permitted-in-Heap.ensures at c.of_region-in-Heap.ensures) ∙ columns_are _ _ _ _ _ c.whole_header-h.ensures (current_read _ c.invocation_count.ensures.0 c.invocation_at-i.ensures) Heap)
+returns-in-Heap c = rw c.in-Heap.is ((rw c.plain-in-Heap.ensures at c.of_region-in-Heap.ensures) ∙ columns_are _ _ _ _ _ c.whole_header-h.ensures (current_read _ c.invocation_count.ensures.0 c.invocation_at-i.ensures) Heap)

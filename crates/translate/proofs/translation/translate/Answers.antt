@@ -1,10 +1,8 @@
-use Rattle.std.proofs.Common.{◌≡◌, ℕ, ◌≤◌, length, Bool, true, false, List, refl, sym, ◌∙◌, arith}
+use Rattle.std.proofs.Common.{◌≡◌, ℕ, ◌≤◌, length, Bool, true, false, List, refl, sym, ◌∙◌, arith, rules}
 use Rattle.translate.specs.Translate.{Ready, Named, in_row, translate_of, in_segment}
 use Rattle.translate.proofs.translation.translate.Goals as goal
 use Rattle.layout.specs.Control.{table_at}
-use Rattle.refusal.specs.Checks.{need, ◌then◌}
-use Rattle.refusal.specs.declared.Check.{Check}
-use Rattle.refusal.specs.declared.Check.TheVariants.{Pass, Stop}
+use Rattle.refusal.specs.Checks.{need, ◌then◌, Check}
 use Rattle.refusal.specs.declared.Refusal.{Refusal}
 use Rattle.refusal.specs.declared.Refusal.TheVariants.{Invalid, NoSegment}
 use Rattle.refusal.proofs.Checks.{need_then}
@@ -16,14 +14,12 @@ use Rattle.control.specs.Control.{edition, control_ready, buffers_valid}
 use Rattle.control.proofs.Facts.{BuffersFacts, control_facts, buffers_facts, ready_decides}
 use Rattle.segments.specs.Rules.{segment_of}
 use Rattle.segments.specs.declared.rules.Row.{Row}
-use Rattle.segments.specs.declared.rules.Segment.{Segment}
-use Rattle.segments.specs.declared.rules.Segment.TheVariants.{Is, Missing}
 use Rattle.segments.proofs.Table.{segment_found}
 use Rattle.translate.specs.Checks.{first_checks}
-use Rattle.translate.specs.declared.place.Translation.{Translation}
-use Rattle.translate.specs.declared.place.Translation.TheVariants.{Refused}
 use Rattle.translate.specs.declared.request.Request.{Request}
 use Rattle.translate.proofs.Accepted.{named}
+use Rattle.std.specs.Prelude.{Err, Ok, Option, Some, None}
+use Rattle.translate.specs.Place.{Translation}
 
 -- `translate::translation::translate` meets its contract: a first test refuses, or no row is found, or the row's function answers, which has
 -- what the first tests give. Assumes nothing.
@@ -33,7 +29,7 @@ request kind index offset n = record { kind = kind; index = index; offset = offs
 
 module _ (s c p : List ℕ) (kind a n : ℕ) where
   -- the snapshot is not valid
-  not_valid : snapshot_valid s ≡ false → Refused Invalid ≡ translate_of s c p kind a n
+  not_valid : snapshot_valid s ≡ false → Err Invalid ≡ translate_of s c p kind a n
   unfolding translate_of buffers_valid first_checks need ◌then◌
   not_valid e = rw e
 
@@ -45,11 +41,11 @@ module _ (s c p : List ℕ) (kind a n : ℕ) where
 
   module _ {check : Check} (tested : check ≡ first_checks (buffers_valid s c p) kind a n) where
     -- one refuses
-    stopped : {r : Refusal} → check ≡ Stop r → Refused r ≡ translate_of s c p kind a n
+    stopped : {r : Refusal} {x : Translation} → check ≡ Err r → x ≡ Err r → x ≡ translate_of s c p kind a n
     unfolding translate_of
-    stopped e = rw (← tested, e)
+    stopped e h = rw (← tested, e) h
 
-    module _ (pass : check ≡ Pass) where
+    module _ (pass : check ≡ Ok tt) where
       -- the header is there
       header_there : table_at ≤ length c
       unfolding first_checks
@@ -69,7 +65,7 @@ module _ (s c p : List ℕ) (kind a n : ℕ) where
             offset = omega arith;
           }
 
-      module _ {h : Header} {v t i : ℕ} {found : Segment} (built : v ≡ edition c) (header : h ≡ header_of s) (type : t ≡ type_of a) (index : i ≡ index_of a)
+      module _ {h : Header} {v t i : ℕ} {found : Option Row} (built : v ≡ edition c) (header : h ≡ header_of s) (type : t ≡ type_of a) (index : i ≡ index_of a)
           (sought : found ≡ segment_of v t i h.accounts) where
         -- the segment that was looked for is the definition's
         same : {o : ℕ} → o ≡ offset_of a → translate_of s c p kind a n ≡ in_segment s c found (request kind i o n)
@@ -77,49 +73,50 @@ module _ (s c p : List ℕ) (kind a n : ℕ) where
         same e = rw (← tested, pass, sought, built, header, type, index, e)
 
         -- no row is found
-        missing : found ≡ Missing → Refused NoSegment ≡ translate_of s c p kind a n
+        missing : found ≡ None → Err NoSegment ≡ translate_of s c p kind a n
         unfolding in_segment
         missing m = rw (same refl, m)
 
         -- a row is found: its function answers
-        answered : {r : Row} {o : ℕ} {x : Translation} → found ≡ Is r → o ≡ offset_of a
+        answered : {r : Row} {o : ℕ} {x : Translation} → found ≡ Some r → o ≡ offset_of a
             → x ≡ in_row s c r.presence r.fetch r.store (request kind i o n)
             → x ≡ translate_of s c p kind a n
         unfolding in_segment
         answered f e h = rw (same e, f) h
 
         -- it has all that it asks
-        asked : {r : Row} {o : ℕ} → found ≡ Is r → o ≡ offset_of a
+        asked : {r : Row} {o : ℕ} → found ≡ Some r → o ≡ offset_of a
             → Ready s c (request kind i o n) × Named s r.presence (request kind i o n)
         asked {r} {o} f e = (has e, named s t (request kind i o n) r (segment_found v t i (accounts s) r ((rw header at (sym sought)) ∙ f)).0 r.presence refl)
 
-pub returns-else-valid : goal.returns-else-valid
-returns-else-valid c = not_valid _ _ _ _ _ _ (sym c.valid.ensures ∙ c.if-valid.false)
+pub returns-then-not-valid : goal.returns-then-not-valid
+returns-then-not-valid c = not_valid _ _ _ _ _ _ (sym c.valid.ensures ∙ c.if-not-valid.true)
 
 pub whole_header-h-requires : goal.whole_header-h-requires
-whole_header-h-requires c = (snapshot_facts _ (sym c.valid.ensures ∙ c.if-valid.true)).header
+whole_header-h-requires c = (snapshot_facts _ (sym c.valid.ensures ∙ c.if-not-valid.false)).header
 
-pub returns-in-Stop : goal.returns-in-Stop
-returns-in-Stop c = stopped _ _ _ _ _ _ (same_check _ _ _ _ _ _ (sym c.valid.ensures ∙ c.if-valid.true) c.whole_header-h.ensures c.control_ready.ensures c.first_checks-check.ensures) c.in-Stop.is
+pub returns-in_err-first_checks : goal.returns-in_err-first_checks
+returns-in_err-first_checks c =
+    stopped _ _ _ _ _ _ (same_check _ _ _ _ _ _ (sym c.valid.ensures ∙ c.if-not-valid.false) c.whole_header-h.ensures c.control_ready.ensures c.first_checks.ensures) c.in_err-first_checks.was (search rules)
 
 pub edition_of-requires : goal.edition_of-requires
-edition_of-requires c = header_there _ _ _ _ _ _ (same_check _ _ _ _ _ _ (sym c.valid.ensures ∙ c.if-valid.true) c.whole_header-h.ensures c.control_ready.ensures c.first_checks-check.ensures) c.in_default.is
+edition_of-requires c = header_there _ _ _ _ _ _ (same_check _ _ _ _ _ _ (sym c.valid.ensures ∙ c.if-not-valid.false) c.whole_header-h.ensures c.control_ready.ensures c.first_checks.ensures) c.in_ok-first_checks.was
 
-pub returns-in_default-found : goal.returns-in_default-found
-returns-in_default-found c =
-    missing _ _ _ _ _ _ (same_check _ _ _ _ _ _ (sym c.valid.ensures ∙ c.if-valid.true) c.whole_header-h.ensures c.control_ready.ensures c.first_checks-check.ensures) c.in_default.is
-    c.edition_of.ensures c.whole_header-h.ensures c.segment_type.ensures c.index-index.ensures c.segment_of-found.ensures c.in_default-found.is
+pub returns-in_default : goal.returns-in_default
+returns-in_default c =
+    missing _ _ _ _ _ _ (same_check _ _ _ _ _ _ (sym c.valid.ensures ∙ c.if-not-valid.false) c.whole_header-h.ensures c.control_ready.ensures c.first_checks.ensures) c.in_ok-first_checks.was
+    c.edition_of.ensures c.whole_header-h.ensures c.segment_type.ensures c.index-index.ensures c.segment_of-found.ensures c.in_default.is
 
 pub in_row-requires-clause-ready : goal.in_row-requires-clause-ready
 in_row-requires-clause-ready c =
-    has _ _ _ _ _ _ (same_check _ _ _ _ _ _ (sym c.valid.ensures ∙ c.if-valid.true) c.whole_header-h.ensures c.control_ready.ensures c.first_checks-check.ensures) c.in_default.is c.offset.ensures
+    has _ _ _ _ _ _ (same_check _ _ _ _ _ _ (sym c.valid.ensures ∙ c.if-not-valid.false) c.whole_header-h.ensures c.control_ready.ensures c.first_checks.ensures) c.in_ok-first_checks.was c.offset.ensures
 
 pub in_row-requires-clause-named : goal.in_row-requires-clause-named
 in_row-requires-clause-named c =
-    (asked _ _ _ _ _ _ (same_check _ _ _ _ _ _ (sym c.valid.ensures ∙ c.if-valid.true) c.whole_header-h.ensures c.control_ready.ensures c.first_checks-check.ensures) c.in_default.is
-    c.edition_of.ensures c.whole_header-h.ensures c.segment_type.ensures c.index-index.ensures c.segment_of-found.ensures c.in-Is.is c.offset.ensures).1
+    (asked _ _ _ _ _ _ (same_check _ _ _ _ _ _ (sym c.valid.ensures ∙ c.if-not-valid.false) c.whole_header-h.ensures c.control_ready.ensures c.first_checks.ensures) c.in_ok-first_checks.was
+    c.edition_of.ensures c.whole_header-h.ensures c.segment_type.ensures c.index-index.ensures c.segment_of-found.ensures c.in-Some.is c.offset.ensures).1
 
 pub returns : goal.returns
 returns c =
-    answered _ _ _ _ _ _ (same_check _ _ _ _ _ _ (sym c.valid.ensures ∙ c.if-valid.true) c.whole_header-h.ensures c.control_ready.ensures c.first_checks-check.ensures) c.in_default.is
-    c.edition_of.ensures c.whole_header-h.ensures c.segment_type.ensures c.index-index.ensures c.segment_of-found.ensures c.in-Is.is c.offset.ensures c.in_row.ensures
+    answered _ _ _ _ _ _ (same_check _ _ _ _ _ _ (sym c.valid.ensures ∙ c.if-not-valid.false) c.whole_header-h.ensures c.control_ready.ensures c.first_checks.ensures) c.in_ok-first_checks.was
+    c.edition_of.ensures c.whole_header-h.ensures c.segment_type.ensures c.index-index.ensures c.segment_of-found.ensures c.in-Some.is c.offset.ensures c.in_row.ensures

@@ -1,6 +1,0 @@
-use Rattle.words.proofs.numbers.u32_at.Goals as goal
-use Rattle.std.proofs.Common.{arith}
-use Rattle.words.proofs.Word.{word_append}
-
-pub returns : goal.returns
-returns c = (omega (arith, word_append 2 2 c.args.s.now c.args.at), omega arith)
