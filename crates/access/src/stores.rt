@@ -64,9 +64,8 @@ pub fn store(
     Ok(())
 }
 
-// Stores the whole of a buffer, 1 to 4,096 bytes. It is compiled into both functions below.
-#[inline(always)]
-fn store_bytes(
+// Stores the whole of a lent buffer, 1 to 4,096 bytes.
+pub fn store_span(
     s: &[u8],
     c: &mut [u8],
     pool: &mut [u8],
@@ -86,22 +85,9 @@ fn store_bytes(
     Ok(())
 }
 
-// Stores the whole of a lent buffer, 1 to 4,096 bytes.
-pub fn store_span(
-    s: &[u8],
-    c: &mut [u8],
-    pool: &mut [u8],
-    a: Address,
-    bytes: &[u8],
-) -> Result<(), Refusal>
-    ensures value { result ≡ store_of s.now c.old pool.old kind_store_span a.0 (length bytes.now) }
-    ensures c_after { c.new ≡ store_control s.now c.old pool.old kind_store_span a.0 (length bytes.now) }
-    ensures pool_after { pool.new ≡ store_pool s.now c.old pool.old kind_store_span a.0 bytes.now }
-{
-    store_bytes(s, c, pool, a, bytes)
-}
-
-// Stores a record's bytes, as `store_span` does. That has one caller and is compiled into it; this one is called by the writes of records.
+// Stores a record's bytes, as `store_span` does. That has one caller and is compiled into it; this one is called by the writes of records,
+// so that the archive has it once and not in each. Two bodies, so that a slip in one of them can be planted alone (must-fail/).
+#[inline(never)]
 pub fn store_record(
     s: &[u8],
     c: &mut [u8],
@@ -113,5 +99,11 @@ pub fn store_record(
     ensures c_after { c.new ≡ store_control s.now c.old pool.old kind_store_span a.0 (length bytes.now) }
     ensures pool_after { pool.new ≡ store_pool s.now c.old pool.old kind_store_span a.0 bytes.now }
 {
-    store_bytes(s, c, pool, a, bytes)
+    let recorded = translate(s, c, pool, STORE_SPAN, a, bytes.len());
+    let Ok(place) = recorded else {
+        return recorded.map(|_| ());
+    };
+    let start = make_writable(s, c, pool, place);
+    copy(pool, start, bytes, 0, bytes.len());
+    Ok(())
 }

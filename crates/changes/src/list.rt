@@ -1,5 +1,5 @@
 // The change list: header, entries in ascending order, pages.
-ghost use Rattle.std.specs.Prelude.{◌≡◌, true, ℕ, ◌+◌, ◌*◌, ◌≤◌, ◌<◌, length, get_or};
+ghost use Rattle.std.specs.Prelude.{◌≡◌, true, ℕ, ◌+◌, ◌*◌, ◌/◌, ◌≤◌, ◌<◌, length, get_or};
 ghost use Rattle.layout.specs.Page.{page_size};
 ghost use Rattle.layout.specs.Control.{frame_limit};
 ghost use Rattle.layout.specs.List.{pages_at, list_total, list_header, change_at};
@@ -17,11 +17,17 @@ use layout::page::PAGE;
 use pages::{frame_start, live_bytes};
 use refusal::Refusal;
 use snapshot::accounts::whole_account_entry;
+use sort::sort;
 use words::numbers::write;
 use words::runs::{clear, copy};
 
-// Up to so many copies are listed without an array for every frame, which takes longer to fill than a page to list.
+// Up to so many copies are listed without the arrays for every frame, which take longer to fill than a page to list.
 const FEW: usize = 64;
+
+// The room that the sort of so many numbers takes, and of a number for each frame.
+const HALF_OF_FEW: usize = FEW / 2;
+
+const HALF_OF_ALL: usize = FRAMES / 2;
 
 // Whether two of the copies, which are in order, are of one page.
 fn claimed_twice(order: &[u64]) -> bool
@@ -77,13 +83,13 @@ fn write_changes(s: &[u8], pool: &[u8], order: &[u64], out: &mut [u8])
 }
 
 // Writes the change list of at most N copies, and tells whether it did. Where there are more, it writes nothing and tells nothing.
-fn list_up_to<const N: usize>(
+fn list_up_to<const N: usize, const HALF: usize>(
     s: &[u8],
     c: &[u8],
     pool: &[u8],
     out: &mut [u8],
 ) -> Option<Result<(), Refusal>>
-    requires { (buffers_valid s.now c.now pool.now ≡ true) × (N ≤ frame_limit) }
+    requires { (buffers_valid s.now c.now pool.now ≡ true) × (N ≤ frame_limit) × (N / 2 ≤ HALF) × (HALF ≤ frame_limit) }
     ensures { Tried s.now c.now pool.now N out.old result out.new }
 {
     let mut codes = [0u64; N];
@@ -93,7 +99,7 @@ fn list_up_to<const N: usize>(
         Err(Unlisted::Full) => return None,
     };
     let order = &mut codes[..n];
-    order.sort_unstable();
+    sort(order, &mut [0u64; HALF]);
     if claimed_twice(order) {
         return Some(Err(Refusal::Invalid));
     }
@@ -113,9 +119,9 @@ pub fn change_list(s: &[u8], c: &[u8], pool: &[u8], out: &mut [u8]) -> Result<()
     if !buffers_valid(s, c, pool) {
         return Err(Refusal::Invalid);
     }
-    if let Some(answer) = list_up_to::<FEW>(s, c, pool, out) {
+    if let Some(answer) = list_up_to::<FEW, HALF_OF_FEW>(s, c, pool, out) {
         return answer;
     }
     // there are never more copies than frames
-    list_up_to::<FRAMES>(s, c, pool, out).unwrap_or(Err(Refusal::Invalid))
+    list_up_to::<FRAMES, HALF_OF_ALL>(s, c, pool, out).unwrap_or(Err(Refusal::Invalid))
 }

@@ -10,7 +10,7 @@ ghost use Rattle.hekthumar.specs.Answers.{step_buffer, step_event, step_location
 use super::outcomes::{OutcomeAnswer, outcome_answer};
 use super::record_reads::{BufferRead, CallRecordRead, EventRead, LocationRead, ReturnedRead};
 use address::Address;
-use records::reads::read;
+use records::reads::{read_buffer, read_call_record, read_event, read_location, read_returned};
 use records::types::{Buffer, CallRecord, Event, Location, Returned};
 use records::writes::write;
 
@@ -25,7 +25,7 @@ pub fn hekthumar_read_buffer(
     ensures control_value { control.now ≡ (lent snapshot.now control.now pool.now (read_record buffer_layout address)).after.control }
     ensures pool_value { pool.now ≡ (lent snapshot.now control.now pool.now (read_record buffer_layout address)).after.pool }
 {
-    BufferRead::from(read(snapshot, control, pool, Address(address)))
+    BufferRead::from(read_buffer(snapshot, control, pool, Address(address)))
 }
 
 // Reads an event.
@@ -34,7 +34,7 @@ pub fn hekthumar_read_event(snapshot: &[u8], control: &[u8], pool: &[u8], addres
     ensures control_value { control.now ≡ (lent snapshot.now control.now pool.now (read_record event_layout address)).after.control }
     ensures pool_value { pool.now ≡ (lent snapshot.now control.now pool.now (read_record event_layout address)).after.pool }
 {
-    EventRead::from(read(snapshot, control, pool, Address(address)))
+    EventRead::from(read_event(snapshot, control, pool, Address(address)))
 }
 
 // Reads a location.
@@ -48,7 +48,7 @@ pub fn hekthumar_read_location(
     ensures control_value { control.now ≡ (lent snapshot.now control.now pool.now (read_record location_layout address)).after.control }
     ensures pool_value { pool.now ≡ (lent snapshot.now control.now pool.now (read_record location_layout address)).after.pool }
 {
-    LocationRead::from(read(snapshot, control, pool, Address(address)))
+    LocationRead::from(read_location(snapshot, control, pool, Address(address)))
 }
 
 // Reads a call record.
@@ -62,7 +62,7 @@ pub fn hekthumar_read_call_record(
     ensures control_value { control.now ≡ (lent snapshot.now control.now pool.now (read_record call_record_layout address)).after.control }
     ensures pool_value { pool.now ≡ (lent snapshot.now control.now pool.now (read_record call_record_layout address)).after.pool }
 {
-    CallRecordRead::from(read(snapshot, control, pool, Address(address)))
+    CallRecordRead::from(read_call_record(snapshot, control, pool, Address(address)))
 }
 
 // Reads a returned value.
@@ -76,7 +76,7 @@ pub fn hekthumar_read_returned(
     ensures control_value { control.now ≡ (lent snapshot.now control.now pool.now (read_record returned_layout address)).after.control }
     ensures pool_value { pool.now ≡ (lent snapshot.now control.now pool.now (read_record returned_layout address)).after.pool }
 {
-    ReturnedRead::from(read(snapshot, control, pool, Address(address)))
+    ReturnedRead::from(read_returned(snapshot, control, pool, Address(address)))
 }
 
 // Writes a buffer descriptor.

@@ -86,7 +86,9 @@ fn write_fresh(c: &mut [u8], start: Start)
     write(c, FIRST_RECORD, 2, u64::from(start.program.0));
 }
 
-// Begins a program: every byte of the control block is written, then its stack is resized, which takes frame 0 for one page.
+// Begins a program: every byte of the control block is written, then its stack is resized, which takes frame 0 for one page. It is compiled
+// into both begins of the interface: called, its answer would go through memory.
+#[inline(always)]
 #[tactic(auto, using(crate::proofs::Decided::control_bare, crate::proofs::Decided::pool_kept))]
 pub fn begin(s: &[u8], c: &mut [u8], pool: &mut [u8], start: Start) -> Result<(), Refusal>
     ensures value { result ≡ begin_check s.now (length c.old) (length pool.old) start }

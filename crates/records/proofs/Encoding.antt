@@ -41,6 +41,27 @@ decoded-encoded (w ∷ ws) (v ∷ vs) r =
 
 -- ---- fields written one after another
 
+-- a number written is a part of one field
+pub put_field : (s : List ℕ) (at w v : ℕ) {t : List ℕ} → t ≡ splice s at (word_bytes w v) → t ≡ splice s at (encoded (w ∷ []) (v ∷ []))
+unfolding encoded
+put_field s at w v e = rw (append-nil (word_bytes w v)) e
+
+-- the bytes of two parts, each with all of its fields
+encoded-append : (ws us vs xs : List ℕ) → length vs ≡ length ws → encoded (ws ++ us) (vs ++ xs) ≡ encoded ws vs ++ encoded us xs
+unfolding encoded
+encoded-append [] us [] xs e = refl
+encoded-append [] us (v ∷ vs) xs e = absurd (omega (arith, e))
+encoded-append (w ∷ ws) us [] xs e = absurd (omega (arith, e))
+encoded-append (w ∷ ws) us (v ∷ vs) xs e =
+    rw (encoded-append ws us vs xs (omega (arith, e))) (sym (append_assoc (word_bytes w v) (encoded ws vs) (encoded us xs)))
+
+-- a part written behind another: both are there
+pub put_next : (s : List ℕ) (at : ℕ) (ws us vs xs : List ℕ) → length vs ≡ length ws → {t u : List ℕ} → t ≡ splice s at (encoded ws vs)
+    → u ≡ splice t (at + record_length ws) (encoded us xs)
+    → u ≡ splice s at (encoded (ws ++ us) (vs ++ xs))
+put_next s at ws us vs xs e x y =
+    rw (y, x, encoded-append ws us vs xs e, ← length-encoded ws vs) (sym (splice-append s at (encoded ws vs) (encoded us xs)))
+
 -- they are one write of all the bytes
 pub ruleset put_fields = (splice-append, length-word_bytes, append-nil)
 

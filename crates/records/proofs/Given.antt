@@ -19,7 +19,7 @@ use Rattle.records.specs.Calls.{blank, judged, read_outcome, read_bytes, read_fi
 use Rattle.std.specs.Prelude.{Err, Ok}
 
 -- an array of zeros, as bytes
-zeros_array : (n : ℕ) → replicate n 0 ≡ zeros n
+pub zeros_array : (n : ℕ) → replicate n 0 ≡ zeros n
 unfolding zeros
 zeros_array zero = refl
 zeros_array (suc n) = ap (λ (r : List ℕ). 0 ∷ r) (zeros_array n)

@@ -1,5 +1,5 @@
 -- The tests of a resize, in order, what an accepted one has shown, and what a resize leaves. Assumes nothing.
-use Rattle.std.proofs.Common.{ℕ, ◌-◌, ◌≤◌, ◌<◌, ◌≡◌, ap, ◌∙◌, true, false, List, arith, length, eqb, leb, lt-ltb, le-ltb, le-leb, Result, Ok, Err}
+use Rattle.std.proofs.Common.{ℕ, ◌-◌, ◌≤◌, ◌<◌, ◌≡◌, ap, ◌∙◌, true, false, List, arith, length, eqb, leb, lt-ltb, le-ltb, le-leb, leb-true, Result, Ok, Err}
 use borrow.Author.Tests.{lt-leb}
 use Rattle.layout.specs.Control.{usage_stack, usage_heap}
 use Rattle.layout.specs.Page.{page_limit, pool_length}
@@ -7,7 +7,7 @@ use Rattle.choice.specs.Choice.{either}
 use Rattle.choice.proofs.Tests.{by_test}
 use Rattle.refusal.specs.declared.Refusal.{Refusal}
 use Rattle.refusal.specs.declared.Refusal.TheVariants.{Invalid, BadRequest, NotPermitted, NoFrame, TooManyPages}
-use Rattle.refusal.proofs.Checks.{need_on, need_stop, need_last, need_refused}
+use Rattle.refusal.proofs.Checks.{need_on, need_stop, need_last, need_refused, need_then, need_pass}
 use Rattle.snapshot.specs.Header.{accounts}
 use Rattle.control.specs.Codes.{region_coded}
 use Rattle.control.specs.Control.{frames, control_valid, buffers_valid, current, invocations, pages_of, size_of, set_pages}
@@ -94,12 +94,20 @@ module _ (s c p : List ℕ) (code n : ℕ) where
       unfolding resize_check
       resize_large h = refused _ (need_on _ _ _ ok ∙ need_on _ _ _ (named code r e).0 ∙ need_refused _ _ (lt-leb n page_limit h))
 
-      -- they are not: the region is resized
+      -- they are not: each test passes
+      pub resize_passes : n ≤ page_limit → resize_check s c p code n ≡ Ok tt
+      unfolding resize_check
+      resize_passes h = need_on _ _ _ ok ∙ need_on _ _ _ (named code r e).0 ∙ need_last _ _ (le-leb n page_limit h)
+
+      -- and the region is resized
       pub resize_accepted : n ≤ page_limit → resize_of s c p code n ≡ resize_to c p r n
-      unfolding resize_of resize_check
-      resize_accepted h =
-          let t : resize_check s c p code n ≡ Ok tt = need_on _ _ _ ok ∙ need_on _ _ _ (named code r e).0 ∙ need_last _ _ (le-leb n page_limit h) in
-          rw (t, (named code r e).1)
+      unfolding resize_of
+      resize_accepted h = rw (resize_passes h, (named code r e).1)
+
+  -- a resize that passes asks for at most the most pages
+  pub resize_few : resize_check s c p code n ≡ Ok tt → n ≤ page_limit
+  unfolding resize_check
+  resize_few pass = leb-true n page_limit (need_pass _ _ (need_then _ _ _ (need_then _ _ _ pass).1).1)
 
 -- so many more pages are asked for
 module _ (c p : List ℕ) (r : Region) (n : ℕ) where

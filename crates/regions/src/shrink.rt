@@ -21,19 +21,19 @@ const NONE: u16 = 65535;
 // For up to so many pages a short table serves. A table is filled before it is used, and one of a whole region has 8 KiB.
 const FEW: usize = 64;
 
-// The place of a page in its region, the nearest first.
-fn place_of(r: Region, page: Page) -> Option<usize>
-    ensures some { IfSome result (λ k. (k < page_limit) × (page ≡ page_at r k)) }
-    ensures none { IfNone result (page_limit ≤ page.0) }
+// The place of a page in its region, the nearest first. A number that is no page's has a place behind the region: the stack's difference wraps.
+fn place_of(r: Region, page: Page) -> usize
+    ensures itself { result < page_limit → page ≡ page_at r result }
+    ensures alone { (j : ℕ) → j < page_limit → page.0 ≡ (page_at r j).0 → result ≡ j }
 {
     let number = usize::from(page.0);
     match r {
-        Region::Stack => (REGION - 1).checked_sub(number),
-        Region::Heap => (number < REGION).then_some(number),
+        Region::Stack => (REGION - 1).wrapping_sub(number),
+        Region::Heap => number,
     }
 }
 
-// Which of the n pages from `pages` on entry i claims.
+// Which of the n pages from `pages` on entry i claims. The place of a page before them wraps, too, so one test tells.
 fn claimed(c: &[u8], i: usize, r: Region, pages: usize, n: usize) -> Option<usize>
     requires { (entry_end i ≤ length c.now) × (pages + n ≤ page_limit) }
     ensures some { IfSome result (λ x. (x < n) × ((k : ℕ) → k < n → claims c.now (Anonymous r (page_at r (pages + k))) i ≡ nat_eq k x)) }
@@ -42,7 +42,7 @@ fn claimed(c: &[u8], i: usize, r: Region, pages: usize, n: usize) -> Option<usiz
     if usage_at(c, i) != usage_of(r) {
         return None;
     }
-    let k = place_of(r, entry_at(c, i).page)?.checked_sub(pages)?;
+    let k = place_of(r, entry_at(c, i).page).wrapping_sub(pages);
     (k < n).then_some(k)
 }
 

@@ -44,3 +44,15 @@ module _ (t i n : ℕ) where
       by_test (row_matches s t i n)
       (λ h. let q : r ≡ s = cc (first_hit t i n s rs h) in (rw q h, Memᴰ.head q))
       (λ h. let f = row_found rs r (sym (first_miss t i n s rs h) ∙ e) in (f.0, Memᴰ.tail f.1))
+
+  first_other : (r : Row) (rs : List Row) → row_of (r ∷ rs) t i n ≡ None → row_matches r t i n ≡ false
+  first_other r rs e =
+      by_test (row_matches r t i n)
+      (λ h. let z : ◌≡◌ {A = ℕ} 0 1 = cc (first_hit t i n r rs h) in absurd (omega arith)) (λ h. h)
+
+  -- where none is found, no row of the list is that of the pair
+  pub row_missing : (rs : List Row) → row_of rs t i n ≡ None → (r : Row) → Memᴰ r rs → row_matches r t i n ≡ false
+  row_missing [] e r m = elim m [ ]
+  row_missing (s ∷ rs) e r (Memᴰ.head q) = rw q (first_other s rs e)
+  row_missing (s ∷ rs) e r (Memᴰ.tail m) =
+      row_missing rs (sym (first_miss t i n s rs (first_other s rs e)) ∙ e) r m

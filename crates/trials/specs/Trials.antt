@@ -1,14 +1,13 @@
 -- Document 01, "Trials at the edges": "Marked P: proved, together as a single table." By document 02, "One", those with an absent byte
 -- give 13 with its distance. With them fetches of both editions of document 02, "Six". Assumes nothing.
-use Rattle.std.specs.Prelude.{ℕ, ◌+◌, Bool, true, List, [], ◌∷◌, nat_eq, Result, Ok, Err}
+use Rattle.std.specs.Prelude.{ℕ, ◌+◌, Bool, true, List, [], ◌∷◌, nat_eq}
 use Rattle.choice.specs.Choice.{both}
-use Rattle.refusal.specs.Numbers.{number_of, done}
-use Rattle.refusal.specs.declared.Refusal.{Refusal}
+use Rattle.refusal.specs.Numbers.{done}
 use Rattle.address.specs.Address.{split_of}
-use Rattle.address.specs.declared.Fields.{Fields}
 use Rattle.segments.specs.Kinds.{kind_load, kind_fetch, kind_load_span}
 use Rattle.translate.specs.Place.{number_of_answer, distance_of_answer}
 use Rattle.translate.specs.Translate.{translate_of}
+use Rattle.hekthumar.specs.Answers.{fields_answer}
 use Rattle.trials.specs.Settings.{Setting, plain, plain_older, one_page}
 
 -- a trial: an address with its fields, or one that is refused with its number; or an access in a setting, with the number and the
@@ -47,16 +46,12 @@ trials =
     ∷ gives plain_older kind_fetch 0x030005000000 4 7 0
     ∷ []
 
--- these fields and the number 0, or zero fields and the refusal's number
-abbrev pub fields_are : Result Fields Refusal → ℕ → ℕ → ℕ → ℕ → Bool
-fields_are (Ok f) type index offset number =
-    both (nat_eq f.segment_type type) (both (nat_eq f.index index) (both (nat_eq f.offset offset) (nat_eq done number)))
-fields_are (Err r) type index offset number =
-    both (nat_eq 0 type) (both (nat_eq 0 index) (both (nat_eq 0 offset) (nat_eq (number_of r) number)))
-
--- splitting the address gives these fields and this number
+-- splitting the address gives these fields and this number, as a host in C has them: zero fields where it is refused
 unfoldable pub split_gives : ℕ → ℕ → ℕ → ℕ → ℕ → Bool
-split_gives a type index offset number = fields_are (split_of a) type index offset number
+split_gives a type index offset number =
+    both (nat_eq (fields_answer (split_of a)).segment type)
+    (both (nat_eq (fields_answer (split_of a)).index index)
+    (both (nat_eq (fields_answer (split_of a)).offset offset) (nat_eq (fields_answer (split_of a)).number number)))
 
 -- a trial comes out as its row says
 unfoldable pub passes : Trial → Bool

@@ -1,13 +1,13 @@
 -- `changes::list::list_up_to` meets its contract: the copies are gathered and put in order; the first test that fails refuses. Assumes
 -- nothing.
-use Rattle.std.proofs.Common.{◌≡◌, true, ℕ, ◌≤◌, ◌<◌, get_or, take, false, List, Bool, refl, sym, ◌∙◌, arith, length, length-take-le, Ok, Err}
+use Rattle.std.proofs.Common.{◌≡◌, true, ℕ, ◌≤◌, ◌<◌, get_or, take, false, List, Bool, refl, sym, ap, ◌∙◌, arith, length, length-take-le, Ok, Err}
 use Rattle.layout.specs.Control.{frame_limit}
 use Rattle.control.specs.Control.{buffers_valid}
 use Rattle.control.proofs.Facts.{control_facts, buffers_facts}
 use Rattle.changes.specs.Copies.{key_twice, Gathers}
 use Rattle.changes.specs.declared.copies.Unlisted.{Unlisted}
 use Rattle.sort.specs.Sort.{sorted}
-use Rattle.sort.proofs.Library.{sorted_from_library}
+use Rattle.sort.proofs.Sorted.{length-sorted}
 use Rattle.changes.proofs.Answers.{Listed, sorted_codes, bad_entry, bad_twice, bad_room, code_fits, written}
 use Rattle.changes.proofs.list.list_up_to.Goals as goal
 
@@ -21,8 +21,8 @@ module _ (s c p codes : List ℕ) (n : ℕ) (v : buffers_valid s c p ≡ true) (
   few = omega (arith, g.0, (control_facts c (buffers_facts s c p v).control).few_frames)
 
   -- all are sorted
-  counted : (order : List ℕ) → length order ≡ length (take n codes) → length order ≡ n
-  counted order e = e ∙ length-take-le n codes g.1
+  counted : (order : List ℕ) → order ≡ sorted (take n codes) → length order ≡ n
+  counted order e = ap length e ∙ length-sorted (take n codes) ∙ length-take-le n codes g.1
 
   -- the copies can be listed
   listed : (bytes : (k : ℕ) → get_or c k 0 < 256) {order : List ℕ} → order ≡ sorted (take n codes) → {t : Bool} → t ≡ key_twice order → t ≡ false
@@ -51,7 +51,7 @@ returns-in-Err-Full g c =
 pub returns-then-claimed_twice : goal.returns-then-claimed_twice
 returns-then-claimed_twice g c =
     bad_twice _ _ _ c.requires.0 (λ k. (c.type_inv.c k).fits) _
-    (sorted_codes _ _ (sorted_from_library _ _ c.sort_unstable.ensures.permutation c.sort_unstable.ensures.sorted) c.in-Ok.ensures.2)
+    (sorted_codes _ _ c.sort.ensures c.in-Ok.ensures.2)
     (sym c.claimed_twice.ensures ∙ c.if-claimed_twice.true)
 
 pub list_total-requires : goal.list_total-requires
@@ -61,27 +61,27 @@ pub returns-then-out-list_total : goal.returns-then-out-list_total
 returns-then-out-list_total g c =
     bad_room _ _ _ _
     (listed _ _ _ _ _ c.requires.0 c.in-Ok.ensures (λ k. (c.type_inv.c k).fits)
-    (sorted_from_library _ _ c.sort_unstable.ensures.permutation c.sort_unstable.ensures.sorted) c.claimed_twice.ensures c.if-claimed_twice.false)
-    _ (counted _ _ _ _ _ c.requires.0 c.in-Ok.ensures _ c.sort_unstable.ensures.len) c.list_total.ensures c.if-out-list_total.true
+    c.sort.ensures c.claimed_twice.ensures c.if-claimed_twice.false)
+    _ (counted _ _ _ _ _ c.requires.0 c.in-Ok.ensures _ c.sort.ensures) c.list_total.ensures c.if-out-list_total.true
 
 pub write_header-requires : goal.write_header-requires
 write_header-requires g c = (few _ _ _ _ _ c.requires.0 c.in-Ok.ensures, omega arith)
 
 pub write_changes-requires-clause-few : goal.write_changes-requires-clause-few
 write_changes-requires-clause-few g c =
-    let e = counted _ _ _ _ _ c.requires.0 c.in-Ok.ensures _ c.sort_unstable.ensures.len in
+    let e = counted _ _ _ _ _ c.requires.0 c.in-Ok.ensures _ c.sort.ensures in
     (omega (arith, e, few _ _ _ _ _ c.requires.0 c.in-Ok.ensures), omega (arith, e))
 
 pub write_changes-requires-clause-by_index : goal.write_changes-requires-clause-by_index
 write_changes-requires-clause-by_index g c =
     code_fits _ _ _ _
     (listed _ _ _ _ _ c.requires.0 c.in-Ok.ensures (λ k. (c.type_inv.c k).fits)
-    (sorted_from_library _ _ c.sort_unstable.ensures.permutation c.sort_unstable.ensures.sorted) c.claimed_twice.ensures c.if-claimed_twice.false)
+    c.sort.ensures c.claimed_twice.ensures c.if-claimed_twice.false)
 
 pub returns : goal.returns
 returns g c =
     written _ _ _ _
     (listed _ _ _ _ _ c.requires.0 c.in-Ok.ensures (λ k. (c.type_inv.c k).fits)
-    (sorted_from_library _ _ c.sort_unstable.ensures.permutation c.sort_unstable.ensures.sorted) c.claimed_twice.ensures c.if-claimed_twice.false)
-    _ (counted _ _ _ _ _ c.requires.0 c.in-Ok.ensures _ c.sort_unstable.ensures.len) c.list_total.ensures c.if-out-list_total.false
+    c.sort.ensures c.claimed_twice.ensures c.if-claimed_twice.false)
+    _ (counted _ _ _ _ _ c.requires.0 c.in-Ok.ensures _ c.sort.ensures) c.list_total.ensures c.if-out-list_total.false
     c.write_header.ensures c.write_changes.ensures

@@ -1,5 +1,4 @@
 use Rattle.std.proofs.Common.{arith, sym, ◌∙◌}
-use Rattle.translate.specs.Place.{Outcome}
 use Rattle.access.proofs.Near.{span_near}
 use Rattle.records.proofs.Given.{read_allowed, read_refused, read_bad}
 use Rattle.records.proofs.reads.read.Goals as goal

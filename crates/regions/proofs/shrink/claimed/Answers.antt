@@ -1,5 +1,5 @@
 -- `regions::shrink::claimed` meets its contract: an entry of the region claims the page that it names, and no other. Assumes nothing.
-use Rattle.std.proofs.Common.{◌≡◌, true, false, ℕ, ◌+◌, ◌-◌, ◌≤◌, ◌<◌, Bool, List, sym, ap, ◌∙◌, ◌≢◌, arith, eqb, ltb, eq-eqb, ne_eqb, ltb-true, ltb-false, Option, None, Some, IfSome, IfNone}
+use Rattle.std.proofs.Common.{◌≡◌, true, false, ℕ, ◌+◌, ◌≤◌, ◌<◌, Bool, List, sym, ap, ◌∙◌, ◌≢◌, arith, eqb, ltb, eq-eqb, ne_eqb, ltb-true, ltb-false, Option, IfSome, IfNone}
 use Rattle.std.specs.Bool.{then_some}
 use Rattle.layout.specs.Page.{page_limit}
 use Rattle.regions.specs.Resize.{page_at}
@@ -10,7 +10,6 @@ use Rattle.pages.specs.declared.Page.{Page}
 use Rattle.frames.specs.Table.{frame_entry_of, usage_of}
 use Rattle.frames.specs.declared.table.FrameEntry.{FrameEntry}
 use Rattle.frames.proofs.Claims.{claims_page, page_claims}
-use Rattle.regions.proofs.Pages.{page_below, page_one}
 use Rattle.regions.proofs.Listed.{claim}
 
 -- a test that passes for j alone
@@ -36,40 +35,27 @@ module _ (c : List ℕ) (r : Region) (i pages n : ℕ) (most : pages + n ≤ pag
     number : (k : ℕ) → claim c r pages k i ≡ true → q.0 ≡ (page_at r (pages + k)).0
     number k h = sym (ap (λ (x : Page). x.0) read) ∙ (claims_page c i r (page_at r (pages + k)) h).page
 
-    -- it is no page of a region
-    no_page : page_limit ≤ q.0 → Nothing
-    no_page d k l = fails _ (λ h. omega (arith, number k h, page_below r (pages + k) (omega arith)))
-
-    -- it is page x of the region
-    module _ (x : ℕ) (at : (x < page_limit) × (q ≡ page_at r x)) where
+    -- its place is x, and no other page of the region has it
+    module _ (x : ℕ) (at : (k : ℕ) → k < page_limit → q.0 ≡ (page_at r k).0 → x ≡ k) where
       -- so x is the place of a page that it claims
       place : (k : ℕ) → k < n → claim c r pages k i ≡ true → x ≡ pages + k
-      place k l h = page_one r x (pages + k) at.0 (omega arith) (sym (ap (λ (y : Page). y.0) at.1) ∙ number k h)
+      place k l h = at (pages + k) (omega arith) (number k h)
 
-      -- which comes before the pages
-      before : x < pages → Nothing
-      before d k l = fails _ (λ h. omega (arith, place k l h))
-
-      -- or is the j-th from there on
-      module _ (j : ℕ) (b : (pages ≤ x) × (j ≡ x - pages)) where
-        -- which is behind them
+      -- and j is how far it lies behind the first `pages` of them, if it is one of the n
+      module _ (j : ℕ) (near : (k : ℕ) → k < n → x ≡ pages + k → j ≡ k) (far : j < n → x ≡ pages + j) where
+        -- it is none of them
         behind : n ≤ j → Nothing
-        behind d k l = fails _ (λ h. omega (arith, place k l h))
+        behind d k l = fails _ (λ h. omega (arith, d, l, near k l (place k l h)))
 
-        -- or one of them
-        itself : (frame_entry_of c i).usage ≡ usage_of r → j < n → Alone j
-        itself u d = (
+        -- it is the j-th
+        itself : (x < page_limit → q ≡ page_at r x) → (frame_entry_of c i).usage ≡ usage_of r → j < n → Alone j
+        itself p u d = (
           d,
-          λ k l. tested _ k j (λ h. omega (arith, place k l h))
+          λ k l. tested _ k j (λ h. sym (near k l (place k l h)))
               (λ e.
-              let z : pages + k ≡ x = omega arith in
-              rw z (page_claims c i r (page_at r x) (record { usage = u; page = ap (λ (y : Page). y.0) (read ∙ at.1) }))),
+              let z : pages + k ≡ x = omega (arith, far d, e) in
+              rw z (page_claims c i r (page_at r x) (record { usage = u; page = ap (λ (y : Page). y.0) (read ∙ p (omega (arith, far d, d, most))) }))),
         )
-
--- what holds anyway holds where there is none
-anyway : (o : Option ℕ) {P : Type 0} → P → IfNone o P
-anyway None p = p
-anyway (Some x) p = tt
 
 -- an answer that a test gives
 given : (o : Option ℕ) (k n : ℕ) (P : ℕ → Type 0) → o ≡ then_some (ltb k n) k → (k < n → P k) → IfSome o P
@@ -82,25 +68,16 @@ pub returns-then-usage_at-usage_of-clause-none : goal.returns-then-usage_at-usag
 returns-then-usage_at-usage_of-clause-none c =
     other_use _ _ _ _ _ c.requires.1 (λ e. c.if-usage_at-usage_of.true (c.usage_at.ensures ∙ e ∙ sym c.usage_of.ensures))
 
-pub returns-in_err-place_of-clause-none : goal.returns-in_err-place_of-clause-none
-returns-in_err-place_of-clause-none c =
-    anyway _ (no_page _ _ _ _ _ c.requires.1 _ (ap (λ (e : FrameEntry). e.page) (sym c.entry_at.ensures)) c.in_err-place_of.ensures.none)
-
-pub returns-in_err-k-clause-none : goal.returns-in_err-k-clause-none
-returns-in_err-k-clause-none c =
-    anyway _
-    (before _ _ _ _ _ c.requires.1 _ (ap (λ (e : FrameEntry). e.page) (sym c.entry_at.ensures)) _ c.in_ok-place_of.ensures.some (omega (arith, c.in_err-k.ensures)))
-
 pub returns-clause-some : goal.returns-clause-some
 returns-clause-some c =
     given _ _ _ (Alone c.args.c.now c.args.r c.args.i c.args.pages c.args.n c.requires.1) c.then_some.ensures
     (λ l.
-    itself _ _ _ _ _ c.requires.1 _ (ap (λ (e : FrameEntry). e.page) (sym c.entry_at.ensures)) _ c.in_ok-place_of.ensures.some
-    _ c.in_ok-k.ensures (sym c.usage_at.ensures ∙ c.if-usage_at-usage_of.false ∙ c.usage_of.ensures) l)
+    itself _ _ _ _ _ c.requires.1 _ (ap (λ (e : FrameEntry). e.page) (sym c.entry_at.ensures)) _ c.place_of.ensures.alone
+    _ (λ k h e. omega (arith, e, h)) (λ h. omega (arith, h)) c.place_of.ensures.itself (sym c.usage_at.ensures ∙ c.if-usage_at-usage_of.false ∙ c.usage_of.ensures) l)
 
 pub returns-clause-none : goal.returns-clause-none
 returns-clause-none c =
     missed _ _ _ _ c.then_some.ensures
     (λ l.
-    behind _ _ _ _ _ c.requires.1 _ (ap (λ (e : FrameEntry). e.page) (sym c.entry_at.ensures)) _ c.in_ok-place_of.ensures.some
-    _ c.in_ok-k.ensures l)
+    behind _ _ _ _ _ c.requires.1 _ (ap (λ (e : FrameEntry). e.page) (sym c.entry_at.ensures)) _ c.place_of.ensures.alone
+    _ (λ k h e. omega (arith, e, h)) (λ h. omega (arith, h)) l)
